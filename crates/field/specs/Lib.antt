@@ -1,0 +1,3 @@
+pub mod Field
+pub mod Row
+pub mod Solve

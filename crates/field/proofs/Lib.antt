@@ -2,5 +2,9 @@ pub mod Xor
 pub mod Below
 pub mod Tables
 pub mod Mul
+pub mod Powers
+pub mod Bytes
 pub mod Rows
 pub mod Solve
+pub mod Poly
+pub mod Unique

@@ -259,6 +259,13 @@ log-at (suc a) p h =
     sym (power-at (getD logarithms (suc a) 0) (omega (arith, log-lt (suc a) h)))
     ∙ eqb→eq (getD powers (getD logarithms (suc a) 0) 0) (suc a) (both-right (ltb (getD logarithms (suc a) 0) 255) (eqb (getD powers (getD logarithms (suc a) 0) 0) (suc a)) (log-rule (suc a) h))
 
+-- the rule at the entry v of a
+pub log-rules : (a v : ℕ) → a < 256 → v ≡ getD logarithms a 0 → (v < 255) × ((0 < a → gpow v ≡ a) × (a ≡ 0 → v ≡ 0))
+log-rules a v h e = (
+  subst (λ (x : ℕ). x < 255) (sym e) (log-lt a h),
+  (λ p. ap gpow e ∙ log-at a p h, λ z. e ∙ ap (λ (x : ℕ). getD logarithms x 0) z ∙ log-zero),
+)
+
 exp-ok : ℕ → Bool
 exp-ok n = eqb (getD logarithms (getD powers n 0) 0) n
 

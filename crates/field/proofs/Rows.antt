@@ -5,10 +5,12 @@ use Prim.Native.Nat.{ℕ, zero, suc, _+_, _*_, _<_}
 use native.Mathlib.Nat.{add-zero as ℕ-add-zero, zero-add as ℕ-zero-add, add-comm as ℕ-add-comm, zero-mul as ℕ-zero-mul, one-mul as ℕ-one-mul, le-of-suc-le-suc, not-suc-le-zero, add-suc, suc-add, add-mul as ℕ-add-mul, suc-mul, suc-inj, suc-ne-zero}
 use lib.ListN.{length, getD, set}
 use Rattle.field.specs.Field.{_⊕_, _⊗_, gpow}
-use Rattle.field.specs.Row.{rowFrom, row, _⊞_, Bytes}
+use Rattle.field.specs.Bytes.{_⊞_, Bytes}
+use Rattle.field.specs.Row.{rowFrom, row}
+use lib.Dec.{lit<}
 use Rattle.field.specs.Solve.{eval}
-use Rattle.field.proofs.Xor.{add-assoc, zero-add, add-zero, sums}
-use Rattle.field.proofs.Mul.{mul-zero, mul-add, add-mul, mul-assoc, one-mul, gpow-add, gpow-zero, products}
+use Rattle.field.proofs.Xor.{add-assoc, add-lt, zero-add, add-zero, sums}
+use Rattle.field.proofs.Mul.{mul-lt, mul-zero, mul-add, add-mul, mul-assoc, one-mul, gpow-add, gpow-zero, products}
 
 -- a row that starts n places later is g^(n j) times the row
 pub row-shift : (j n i : ℕ) (ms : List ℕ) → rowFrom j (n + i) ms ≡ gpow (n * j) ⊗ rowFrom j i ms
@@ -48,14 +50,6 @@ pub row-add : (j : ℕ) (xs ys : List ℕ) → length xs ≡ length ys → row j
 unfolding row
 row-add j xs ys e = rowFrom-add j 0 xs ys e
 
--- a row by Horner's rule
-pub row-horner : (j : ℕ) (ms : List ℕ) → Bytes ms → row j ms ≡ eval ms (gpow j)
-unfolding eval row rowFrom
-row-horner j [] h = refl
-row-horner j (m ∷ ms) h =
-    ap₂ _⊕_ (ap (λ (x : ℕ). x ⊗ m) (ap gpow (ℕ-zero-mul j) ∙ gpow-zero) ∙ one-mul m (h 0))
-    (row-shift j 1 0 ms ∙ ap₂ (λ (x y : ℕ). gpow x ⊗ y) (ℕ-one-mul j) (row-horner j ms (λ k. h (suc k))))
-
 set-step : (p m v r : ℕ) → p ⊗ v ⊕ r ≡ p ⊗ m ⊕ r ⊕ p ⊗ (m ⊕ v)
 set-step p m v r = simp (mul-add, sums)
 
@@ -77,3 +71,30 @@ pub row-set : (j : ℕ) (ms : List ℕ) (k v : ℕ) → k < length ms → row j 
 unfolding row
 row-set j ms k v h =
     rowFrom-set j 0 ms k v h ∙ ap (λ (n : ℕ). row j ms ⊕ gpow (n * j) ⊗ (getD ms k 0 ⊕ v)) (ℕ-zero-add k)
+
+-- ---- one byte in front: Horner's rule
+
+pub row-nil : (j : ℕ) → row j [] ≡ 0
+unfolding row rowFrom
+row-nil j = refl
+
+pub row-cons : (j m : ℕ) (ms : List ℕ) → m < 256 → row j (m ∷ ms) ≡ m ⊕ gpow j ⊗ row j ms
+unfolding row rowFrom
+row-cons j m ms h =
+    ap₂ _⊕_ (ap (λ (x : ℕ). x ⊗ m) (ap gpow (ℕ-zero-mul j) ∙ gpow-zero) ∙ one-mul m h)
+    (row-shift j 1 0 ms ∙ ap (λ (x : ℕ). gpow x ⊗ rowFrom j 0 ms) (ℕ-one-mul j))
+
+rowFrom-lt : (j i : ℕ) (ms : List ℕ) → rowFrom j i ms < 256
+unfolding rowFrom
+rowFrom-lt j i [] = lit< tt
+rowFrom-lt j i (m ∷ ms) = add-lt 8 _ _ (mul-lt (gpow (i * j)) m) (rowFrom-lt j (suc i) ms)
+
+pub row-lt : (j : ℕ) (ms : List ℕ) → row j ms < 256
+unfolding row
+row-lt j ms = rowFrom-lt j 0 ms
+
+-- a row is the value of the polynomial with these coefficients at g^j
+pub row-eval : (j : ℕ) (ms : List ℕ) → Bytes ms → row j ms ≡ eval ms (gpow j)
+unfolding eval
+row-eval j [] h = row-nil j
+row-eval j (m ∷ ms) h = row-cons j m ms (h 0) ∙ ap (λ (x : ℕ). m ⊕ gpow j ⊗ x) (row-eval j ms (λ i. h (suc i)))

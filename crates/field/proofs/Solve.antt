@@ -9,7 +9,7 @@ use native.Mathlib.Omega.{arith}
 use lib.Dec.{lit<}
 use lib.ListN.{length, getD}
 use Rattle.field.specs.Field.{_⊕_, _⊗_, power, inverseOf}
-use Rattle.field.specs.Row.{Bytes}
+use Rattle.field.specs.Bytes.{Bytes}
 use Rattle.field.specs.Solve.{moment, apart, cleared, solve}
 use Rattle.field.proofs.Xor.{zero-add, add-zero, add-self, add-cancel, add-comm, add-assoc, add-lt, sums}
 use Rattle.field.proofs.Mul.{mul-zero, zero-mul, mul-lt, mul-pos, mul-comm, mul-inverse, inverse-lt, mul-add, add-mul, mul-assoc, one-mul, mul-one, products, power-suc, power-zero}
@@ -19,7 +19,7 @@ abbrev pub Away : ℕ → List ℕ → Type 0
 Away a bs = (v : ℕ) → v < length bs → a ≡ getD bs v 0 → ⊥
 
 -- no two points are equal
-pub Apart : List ℕ → Type 0
+unfoldable pub Apart : List ℕ → Type 0
 Apart [] = Unit {0}
 Apart (b ∷ bs) = Away b bs × Apart bs
 
@@ -58,7 +58,7 @@ apart-bytes a (b ∷ bs) [] v = lit< tt
 apart-bytes a (b ∷ bs) (w ∷ ws) zero = mul-lt w (b ⊕ a)
 apart-bytes a (b ∷ bs) (w ∷ ws) (suc v) = apart-bytes a bs ws v
 
-add-ne : (x y : ℕ) → (x ≡ y → ⊥) → 0 < x ⊕ y
+pub add-ne : (x y : ℕ) → (x ≡ y → ⊥) → 0 < x ⊕ y
 add-ne x y h = go (x ⊕ y) refl
   where
     go : (d : ℕ) → x ⊕ y ≡ d → 0 < d
@@ -182,6 +182,7 @@ solve-moment (b ∷ bs) (w ∷ ws) (c ∷ cs) e f hb hw hc d p =
   where
     first : w ⊗ power b 0 ⊗ c ⊕ moment bs ws cs 0 ≡ w ⊗ c ⊕ moment bs ws cs 0
     first = ap (λ (y : ℕ). w ⊗ y ⊗ c ⊕ moment bs ws cs 0) (power-zero b) ∙ ap (λ (y : ℕ). y ⊗ c ⊕ moment bs ws cs 0) (mul-one w (hw 0))
+
     back : (m : ℕ) → inverseOf w ⊗ (w ⊗ c ⊕ m ⊕ m) ≡ c
     back m =
         ap (λ (y : ℕ). inverseOf w ⊗ y) (add-assoc (w ⊗ c) m m ∙ ap (λ (y : ℕ). w ⊗ c ⊕ y) (add-self m) ∙ add-zero (w ⊗ c))

@@ -1,3 +1,4 @@
 pub mod Field
+pub mod Bytes
 pub mod Row
 pub mod Solve

@@ -1,13 +1,7 @@
 -- Rows (document 01, 'Stripes'): sums of bytes, each times a weight that goes by its place.
 use mathlib.Core.List.{List, [], _∷_}
-use Prim.Native.Nat.{ℕ, suc, _*_, _<_}
-use lib.ListN.{getD}
+use Prim.Native.Nat.{ℕ, suc, _*_}
 use Rattle.field.specs.Field.{_⊕_, _⊗_, gpow}
-
-infixl 65 _⊞_
--- each number of the list is a byte, as of a slice of bytes is known
-abbrev pub Bytes : List ℕ → Type 0
-Bytes ms = (i : ℕ) → getD ms i 0 < 256
 
 -- the sum of g^(i*j) times m_i over a list whose first place is i
 unfoldable pub rowFrom : ℕ → ℕ → List ℕ → ℕ
@@ -17,9 +11,3 @@ rowFrom j i (m ∷ ms) = gpow (i * j) ⊗ m ⊕ rowFrom j (suc i) ms
 -- row j of m_0, m_1, ..: the sum over i of g^(i*j) times m_i
 unfoldable pub row : ℕ → List ℕ → ℕ
 row j ms = rowFrom j 0 ms
-
--- two lists added place by place, to the end of the shorter
-unfoldable pub _⊞_ : List ℕ → List ℕ → List ℕ
-[] ⊞ ys = []
-(x ∷ xs) ⊞ [] = []
-(x ∷ xs) ⊞ (y ∷ ys) = (x ⊕ y) ∷ (xs ⊞ ys)

@@ -65,7 +65,7 @@ impl Gf {
         ensures { λ v. ⌜ v .0 ≡ inverseOf (self .0) ⌝ }
     {
         if self.0 == 0 {
-            return Gf(0);
+            return self;
         }
         Gf::power(Gf::ORDER - logarithm(self.0))
     }
@@ -89,7 +89,14 @@ fn small_power(n: u8) -> u8
 fn logarithm(a: u8) -> usize
     ensures { λ v. ⌜ (v < 255) × ((0 < a → gpow v ≡ a) × (a ≡ 0 → v ≡ 0)) ⌝ }
 {
-    LOG[a as usize] as usize
+    wide(LOG[a as usize])
+}
+
+// The same number.
+fn wide(x: u8) -> usize
+    ensures { λ v. ⌜ v ≡ x ⌝ }
+{
+    x as usize
 }
 
 // g^0 to g^255.

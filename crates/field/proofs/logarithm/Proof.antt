@@ -1,27 +1,21 @@
 use borrow.Author.Needs.{needs}
-use native.Mathlib.Omega.{arith}
-use mathlib.Core.Path.{ap, _∙_}
+use mathlib.Core.Path.{_≡_, ap, _∙_}
 use Prim.Native.Nat.{ℕ}
-use lib.ListN.{getD}
-use Rattle.field.proofs.Mul.{log-zero, log-at, log-lt}
+use Rattle.field.specs.Field.{gpow}
+use Rattle.field.proofs.Mul.{log-rules}
 use Rattle.field.proofs.Tables.{logarithms}
 use Rattle.field.proofs.logarithm.Statement.{statement}
 use Rattle.field.proofs.logarithm.Tie as tie
 
-array-read-result : tie.Need-array-read-result
-array-read-result c = search needs
+array-read-wide : tie.Need-array-read-wide
+array-read-wide c = search needs
 
-cast-result : tie.Need-cast-result
-unfolding logarithms
-cast-result c = omega (arith, log-lt (c .args .a) (search needs))
+wide-requires : tie.Need-wide-requires
+wide-requires c κs = search needs
 
 returns : tie.Need-returns
 unfolding logarithms
-returns c =
-    (
-      log-lt (c .args .a) (search needs),
-      (λ p. log-at (c .args .a) p (search needs), λ e. ap (λ (a : ℕ). getD logarithms a 0) e ∙ log-zero)
-    )
+returns c = log-rules (c .before .args .a) _ (search needs) (c .wide .ensures)
 
 pub logarithm-spec : {M : Type 1} → statement M
-logarithm-spec = tie.close (tie.spec array-read-result cast-result returns)
+logarithm-spec = tie.close (tie.spec array-read-wide wide-requires returns)

@@ -6,7 +6,7 @@ use Rattle.field.proofs.Gf.inverse.Statement.{statement}
 use Rattle.field.proofs.Gf.inverse.Tie as tie
 
 returns : tie.Need-returns
-returns c = sym (ap inverseOf (search needs) ∙ inverse-zero)
+returns c = c .if1 .taken ∙ sym (ap inverseOf (c .if1 .taken) ∙ inverse-zero)
 
 logarithm-requires : tie.Need-logarithm-requires
 logarithm-requires c κs = search needs

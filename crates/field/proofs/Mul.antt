@@ -411,6 +411,3 @@ product-right a b e = sym (ap (λ (x : ℕ). a ⊗ x) e ∙ mul-zero a)
 
 pub product-logs : (a b m n : ℕ) → gpow m ≡ a → gpow n ≡ b → gpow (m + n) ≡ a ⊗ b
 product-logs a b m n e f = gpow-add m n ∙ ap₂ _⊗_ e f
-
-pub product-round : (a b m n : ℕ) → gpow m ≡ a → gpow n ≡ b → 255 ≤ m + n → gpow (m + n - 255) ≡ a ⊗ b
-product-round a b m n e f l = sym (gpow-wrap (m + n - 255)) ∙ ap gpow (omega arith) ∙ product-logs a b m n e f

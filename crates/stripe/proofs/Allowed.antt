@@ -1,0 +1,178 @@
+-- What an allowed shape says, as plain facts about its numbers: each is read off from one test of `shapeRefusal`.
+use mathlib.Core.Path.{_≡_, refl, sym, ap, _∙_}
+use mathlib.Core.Bool.{Bool, true, false, cond, _&&_, _||_}
+use mathlib.Core.Logic.{_⊎_, inl, inr}
+use Prim.Native.Nat.{ℕ, zero, suc, _*_, _/_, _%_, _<_, _≤_}
+use native.Mathlib.Nat.{mul-le-mul, mul-le-mul-right, div-one, one-mul, suc-ne-zero, div-add-mod}
+use native.Mathlib.Omega.{arith}
+use lib.Dec.{leb, ltb, eqb}
+use borrow.Author.Tests.{ltb-true, leb-true, eqb-true, eq-eqb, ne-eqb}
+use Rattle.stripe.specs.declared.Shape.{Shape}
+use Rattle.stripe.specs.Shape.{shapeRefusal, dataAllowed, parityAllowed, markAllowed, lengthAllowed, dataLength, parityLength, stripeLength}
+use Rattle.stripe.specs.Stripe.{runs, runLength}
+
+-- the marks that are allowed beside 0: more than r, at most 3 and at most k
+pub record Prepared (s : Shape) : Type 0 where
+  pub gains : s .r < s .t
+  pub mark-most : s .t ≤ 3
+  pub mark-data : s .t ≤ s .k
+
+pub record Allowed (s : Shape) : Type 0 where
+  pub data-some : 1 ≤ s .k
+  pub data-most : s .k ≤ 255
+  pub parity-some : 1 ≤ s .r
+  pub parity-most : s .r ≤ 3
+  pub mark : (s .t ≡ 0) ⊎ Prepared s
+  pub length-some : 1 ≤ s .l
+  pub length-most : s .l ≤ 4096
+  pub runs-some : 1 ≤ runs s
+  pub runs-most : runs s ≤ 3
+  pub run-some : 0 < runLength s
+  pub run-most : runLength s ≤ s .l
+  pub cut : runs s * runLength s ≡ s .l
+  pub data-length : dataLength s ≤ 1044480
+  pub parity-length : parityLength s ≤ 12288
+  pub stripe-length : stripeLength s ≤ 1056768
+
+and-left : (a b : Bool) → (a && b) ≡ true → a ≡ true
+and-left true b e = refl
+and-left false b e = e
+
+and-right : (a b : Bool) → (a && b) ≡ true → b ≡ true
+and-right true b e = e
+and-right false b e = absurd (suc-ne-zero 0 (sym (ap (λ (x : Bool). cond x 1 0) e)))
+
+or-cases : (a b : Bool) → (a || b) ≡ true → (a ≡ true) ⊎ (b ≡ true)
+or-cases true b e = inl refl
+or-cases false b e = inr e
+
+-- a refusal of 0 says that both tests passed
+both-passed : (a b : Bool) → _≡_ {A = ℕ} (cond a (cond b 0 2) 1) 0 → (a ≡ true) × (b ≡ true)
+both-passed true true e = (refl, refl)
+both-passed true false e = absurd (suc-ne-zero 1 e)
+both-passed false b e = absurd (suc-ne-zero 0 e)
+
+-- a length cut into t runs, t dividing it
+cut-exact : (l t : ℕ) → l % t ≡ 0 → t * (l / t) ≡ l
+cut-exact l t e = omega (arith, div-add-mod l t)
+
+part-some : (t q l : ℕ) → 1 ≤ l → t * q ≡ l → 0 < q
+part-some t zero l p e = omega arith
+part-some t (suc q) l p e = omega arith
+
+part-most : (t q l : ℕ) → 1 ≤ t → t * q ≡ l → q ≤ l
+part-most t q l p e = omega (arith, mul-le-mul-right q p)
+
+-- the runs of a column: one, or as many as the mark says
+pub plain-runs : (s : Shape) → s .t ≡ 0 → runs s ≡ 1
+plain-runs s e = ap (λ (b : Bool). cond b 1 (s .t)) (eq-eqb (s .t) 0 e)
+
+pub prepared-runs : (s : Shape) → 1 ≤ s .t → runs s ≡ s .t
+prepared-runs s p = ap (λ (b : Bool). cond b 1 (s .t)) (ne-eqb (s .t) 0 (λ e. omega arith))
+
+pub run-length-by : (s : Shape) (n : ℕ) → runs s ≡ n → runLength s ≡ s .l / n
+unfolding runLength
+run-length-by s n e = ap (λ (m : ℕ). s .l / m) e
+
+pub plain-run-length : (s : Shape) → s .t ≡ 0 → runLength s ≡ s .l
+plain-run-length s e = run-length-by s 1 (plain-runs s e) ∙ div-one (s .l)
+
+pub prepared-run-length : (s : Shape) → 1 ≤ s .t → runLength s ≡ s .l / s .t
+prepared-run-length s p = run-length-by s (s .t) (prepared-runs s p)
+
+-- the facts of the record, from those of the four numbers
+record Runs (s : Shape) : Type 0 where
+  some : 1 ≤ runs s
+  most : runs s ≤ 3
+  exact : runs s * runLength s ≡ s .l
+
+cut-runs : (s : Shape) (n : ℕ) → runs s ≡ n → 1 ≤ n → n ≤ 3 → n * (s .l / n) ≡ s .l → Runs s
+cut-runs s n e p q x =
+    record {
+      some = omega arith;
+      most = omega arith;
+      exact = ap (λ (m : ℕ). m * runLength s) e ∙ ap (λ (m : ℕ). n * m) (run-length-by s n e) ∙ x;
+    }
+
+plain-cut : (s : Shape) → s .t ≡ 0 → Runs s
+plain-cut s e = cut-runs s 1 (plain-runs s e) (omega arith) (omega arith) (one-mul _ ∙ div-one (s .l))
+
+prepared-cut : (s : Shape) → Prepared s → s .l % s .t ≡ 0 → Runs s
+prepared-cut s p e =
+    cut-runs s (s .t) (prepared-runs s (omega arith)) (omega arith) (p .mark-most) (cut-exact (s .l) (s .t) e)
+
+all-facts : (s : Shape) → 1 ≤ s .k → s .k ≤ 255 → 1 ≤ s .r → s .r ≤ 3 → (s .t ≡ 0) ⊎ Prepared s
+    → 1 ≤ s .l → s .l ≤ 4096 → Runs s → Allowed s
+all-facts s k1 k2 r1 r2 m l1 l2 c =
+    record {
+      data-some = k1;
+      data-most = k2;
+      parity-some = r1;
+      parity-most = r2;
+      mark = m;
+      length-some = l1;
+      length-most = l2;
+      runs-some = c .some;
+      runs-most = c .most;
+      run-some = part-some (runs s) (runLength s) (s .l) l1 (c .exact);
+      run-most = part-most (runs s) (runLength s) (s .l) (c .some) (c .exact);
+      cut = c .exact;
+      data-length = mul-le-mul k2 l2;
+      parity-length = mul-le-mul r2 l2;
+      stripe-length = mul-le-mul {n₂ = 258} (omega arith) l2;
+    }
+
+module _ (s : Shape) (passed : shapeRefusal s ≡ 0) where
+  tests : (dataAllowed (s .k) && parityAllowed (s .r) && markAllowed (s .k) (s .r) (s .t) ≡ true) × (lengthAllowed (s .t) (s .l) ≡ true)
+  unfolding shapeRefusal
+  tests = both-passed _ _ passed
+
+  numbers : dataAllowed (s .k) && parityAllowed (s .r) ≡ true
+  numbers = and-left _ _ (tests .0)
+
+  k-allowed : dataAllowed (s .k) ≡ true
+  k-allowed = and-left _ _ numbers
+
+  r-allowed : parityAllowed (s .r) ≡ true
+  r-allowed = and-right (dataAllowed (s .k)) _ numbers
+
+  t-allowed : markAllowed (s .k) (s .r) (s .t) ≡ true
+  t-allowed = and-right (dataAllowed (s .k) && parityAllowed (s .r)) _ (tests .0)
+
+  l-bounds : leb 1 (s .l) && leb (s .l) 4096 ≡ true
+  l-bounds = and-left _ _ (tests .1)
+
+  l-divided : (eqb (s .t) 0 || eqb (s .l % s .t) 0) ≡ true
+  l-divided = and-right (leb 1 (s .l) && leb (s .l) 4096) _ (tests .1)
+
+  marked : (s .t ≡ 0) ⊎ Prepared s
+  marked = go (or-cases _ _ t-allowed)
+    where
+      go : (eqb (s .t) 0 ≡ true) ⊎ (ltb (s .r) (s .t) && leb (s .t) 3 && leb (s .t) (s .k) ≡ true) → (s .t ≡ 0) ⊎ Prepared s
+      go (inl e) = inl (eqb-true _ _ e)
+      go (inr e) =
+          inr record {
+            gains = ltb-true _ _ (and-left _ _ (and-left _ _ e));
+            mark-most = leb-true _ _ (and-right (ltb (s .r) (s .t)) _ (and-left _ _ e));
+            mark-data = leb-true _ _ (and-right (ltb (s .r) (s .t) && leb (s .t) 3) _ e);
+          }
+
+  cut-allowed : Runs s
+  cut-allowed = go marked (or-cases _ _ l-divided)
+    where
+      go : (s .t ≡ 0) ⊎ Prepared s → (eqb (s .t) 0 ≡ true) ⊎ (eqb (s .l % s .t) 0 ≡ true) → Runs s
+      go (inl e) d = plain-cut s e
+      go (inr p) (inl e) = plain-cut s (eqb-true (s .t) 0 e)
+      go (inr p) (inr e) = prepared-cut s p (eqb-true (s .l % s .t) 0 e)
+
+  pub allowed : Allowed s
+  allowed =
+      all-facts s
+      (leb-true _ _ (and-left _ _ k-allowed))
+      (leb-true _ _ (and-right (leb 1 (s .k)) _ k-allowed))
+      (leb-true _ _ (and-left _ _ r-allowed))
+      (leb-true _ _ (and-right (leb 1 (s .r)) _ r-allowed))
+      marked
+      (leb-true _ _ (and-left _ _ l-bounds))
+      (leb-true _ _ (and-right (leb 1 (s .l)) _ l-bounds))
+      cut-allowed

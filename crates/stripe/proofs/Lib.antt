@@ -1,0 +1,13 @@
+pub mod Allowed
+pub mod Places
+pub mod Linear
+pub mod Depends
+pub mod Survivors
+pub mod Lost
+pub mod Errors
+pub mod Word
+pub mod Mended
+pub mod Determined
+pub mod Completed
+pub mod Lent
+pub mod Unique

@@ -1,0 +1,40 @@
+-- Shapes: the numbers k, r, t and L of a stripe, and which are allowed (document 01, 'Stripes', the table).
+use Prim.Native.Nat.{ℕ, _+_, _*_, _%_}
+use mathlib.Core.Bool.{Bool, cond, _&&_, _||_}
+use lib.Dec.{leb, ltb, eqb}
+use Rattle.stripe.specs.declared.Shape.{Shape}
+
+-- k is 1 to 255
+abbrev pub dataAllowed : ℕ → Bool
+dataAllowed k = leb 1 k && leb k 255
+
+-- r is 1 to 3
+abbrev pub parityAllowed : ℕ → Bool
+parityAllowed r = leb 1 r && leb r 3
+
+-- t is 0, or r < t <= 3 with t <= k
+abbrev pub markAllowed : ℕ → ℕ → ℕ → Bool
+markAllowed k r t = eqb t 0 || (ltb r t && leb t 3 && leb t k)
+
+-- L is 1 to 4,096, and divisible by t if t is not 0
+abbrev pub lengthAllowed : ℕ → ℕ → Bool
+lengthAllowed t l = leb 1 l && leb l 4096 && (eqb t 0 || eqb (l % t) 0)
+
+-- the refusal of a shape: 1 for k, r or t, 2 for L, 0 for none
+unfoldable pub shapeRefusal : Shape → ℕ
+shapeRefusal s =
+    cond (dataAllowed (s .k) && parityAllowed (s .r) && markAllowed (s .k) (s .r) (s .t)) (cond (lengthAllowed (s .t) (s .l)) 0 2) 1
+
+-- n, the number of columns
+abbrev pub columns : Shape → ℕ
+columns s = s .k + s .r
+
+-- the bytes of all data columns, of all parity columns, and of the whole stripe
+abbrev pub dataLength : Shape → ℕ
+dataLength s = s .k * s .l
+
+abbrev pub parityLength : Shape → ℕ
+parityLength s = s .r * s .l
+
+abbrev pub stripeLength : Shape → ℕ
+stripeLength s = columns s * s .l

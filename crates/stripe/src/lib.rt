@@ -1,0 +1,84 @@
+// Stripes: k data columns and r parity columns of l bytes each, plain or prepared to gain parity.
+pub mod column;
+
+ghost use mathlib.Core.Path.{_≡_};
+ghost use Rattle.stripe.specs.Shape.{markAllowed, lengthAllowed, shapeRefusal};
+
+// The numbers of a stripe: data columns, parity columns, the mark (0 for a plain stripe, else the parity count that the
+// stripe is prepared to gain), and the bytes of a column. Values are made by `Shape::new` alone.
+pub struct Shape {
+    pub k: usize,
+    pub r: usize,
+    pub t: usize,
+    pub l: usize,
+}
+
+impl Shape {
+    // The shape of these numbers, whether allowed or not.
+    pub fn new(k: usize, r: usize, t: usize, l: usize) -> Shape
+        ensures { λ v. ⌜ (v .k ≡ k) × ((v .r ≡ r) × ((v .t ≡ t) × (v .l ≡ l))) ⌝ }
+    {
+        Shape { k, r, t, l }
+    }
+
+    // 1 where k, r or t is not allowed, else 2 where l is not, else 0.
+    pub fn refusal(self) -> u32
+        ensures { λ v. ⌜ v ≡ shapeRefusal self ⌝ }
+    {
+        let k = self.k;
+        let r = self.r;
+        let t = self.t;
+        let l = self.l;
+        if k < 1 {
+            return 1;
+        }
+        if 255 < k {
+            return 1;
+        }
+        if r < 1 {
+            return 1;
+        }
+        if 3 < r {
+            return 1;
+        }
+        if !mark_allowed(k, r, t) {
+            return 1;
+        }
+        if !length_allowed(t, l) {
+            return 2;
+        }
+        0
+    }
+}
+
+// Whether t is 0, or r < t <= 3 with t <= k.
+fn mark_allowed(k: usize, r: usize, t: usize) -> bool
+    ensures { λ v. ⌜ v ≡ markAllowed k r t ⌝ }
+{
+    if t == 0 {
+        return true;
+    }
+    if t <= r {
+        return false;
+    }
+    if 3 < t {
+        return false;
+    }
+    t <= k
+}
+
+// Whether l is 1 to 4096, and divisible by t if t is not 0.
+fn length_allowed(t: usize, l: usize) -> bool
+    ensures { λ v. ⌜ v ≡ lengthAllowed t l ⌝ }
+{
+    if l < 1 {
+        return false;
+    }
+    if 4096 < l {
+        return false;
+    }
+    if t == 0 {
+        return true;
+    }
+    l % t == 0
+}

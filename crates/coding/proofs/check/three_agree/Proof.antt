@@ -1,0 +1,75 @@
+-- `three_agree` meets its contract: each row of the block agrees.
+use Prim.Native.Nat.{ℕ, _+_, _*_, _≤_, _<_}
+use native.Mathlib.Omega.{arith}
+use borrow.Author.Tests.{not-false}
+use denote.Ref.{now}
+use lib.ListN.{length}
+use Rattle.stripe.specs.Shape.{parityLength}
+use Rattle.coding.specs.Check.{BlockAgrees}
+use Rattle.stripe.proofs.Allowed.{Allowed, allowed}
+use Rattle.stripe.proofs.Lent.{Lent, lent}
+use Rattle.coding.proofs.Checked.{in-column, in-parity, row-same, each-of-three, untrue}
+use Rattle.coding.proofs.check.three_agree.Statement.{statement}
+use Rattle.coding.proofs.check.three_agree.Tie as tie
+
+known : (c : tie.Start) → Lent (c .args .s) (length (now (c .args .«data»))) (length (now (c .args .parity)))
+known c = lent _ _ _ (c .pre .0)
+
+ok : (c : tie.Start) → Allowed (c .args .s)
+ok c = allowed (c .args .s) (known c .shape)
+
+inside : (c : tie.Start) → c .args .j * c .args .w + c .args .q + c .args .n ≤ c .args .s .l
+inside c = in-column _ _ _ _ _ (ok c) (c .pre .1 .0)
+
+column : (c : tie.Start) (i : ℕ) → i < c .args .s .r → i * c .args .s .l + (c .args .j * c .args .w + c .args .q) + c .args .n ≤ parityLength (c .args .s)
+column c i h = in-parity _ _ _ _ _ (ok c) (c .pre .1 .0) i h
+
+abbrev Agreed : tie.Start → ℕ → Type 0
+Agreed c i = BlockAgrees (c .args .s) (now (c .args .«data»)) (now (c .args .parity)) (c .args .w) i (c .args .j) (c .args .q) (c .args .n)
+
+mul-at : tie.Need-mul-at
+mul-at c = omega (arith, inside (c .before .before), ok (c .before .before) .length-most)
+
+add-at : tie.Need-add-at
+add-at c = omega (arith, inside (c .before .before), ok (c .before .before) .length-most)
+
+block3-requires : tie.Need-block3-requires
+block3-requires c κs = let st = c .before .before in (known st .data-long, (st .pre .1 .0 .most, inside st))
+
+same-at-requires : tie.Need-same-at-requires
+same-at-requires c κs = let st = c .before .before .before .before .before in (omega (arith, column st 0 (omega (arith, st .pre .1 .1 .1)), known st .parity-long), st .pre .1 .0 .most)
+
+returns : tie.Need-returns
+returns c = λ u. untrue u
+
+add-same-at : tie.Need-add-same-at
+add-same-at c = omega (arith, inside (c .before .before .before .before .before .before .before .before), ok (c .before .before .before .before .before .before .before .before) .length-most)
+
+same-at-requires-2 : tie.Need-same-at-requires-2
+same-at-requires-2 c κs = let st = c .before .before .before .before .before .before .before .before .before in (omega (arith, column st 1 (omega (arith, st .pre .1 .1 .1)), known st .parity-long), st .pre .1 .0 .most)
+
+returns-2 : tie.Need-returns-2
+returns-2 c = λ u. untrue u
+
+add-same-at-2 : tie.Need-add-same-at-2
+add-same-at-2 c = omega (arith, inside (c .before .before .before .before .before .before .before .before .before .before .before .before), ok (c .before .before .before .before .before .before .before .before .before .before .before .before) .length-most)
+
+add-same-at-3 : tie.Need-add-same-at-3
+add-same-at-3 c = omega (arith, inside (c .before .before .before .before .before .before .before .before .before .before .before .before), ok (c .before .before .before .before .before .before .before .before .before .before .before .before) .length-most)
+
+same-at-requires-3 : tie.Need-same-at-requires-3
+same-at-requires-3 c κs = let st = c .before .before .before .before .before .before .before .before .before .before .before .before .before in (omega (arith, column st 2 (omega (arith, st .pre .1 .1 .1)), known st .parity-long), st .pre .1 .0 .most)
+
+returns-3 : tie.Need-returns-3
+returns-3 c =
+    let st = c .before .before .before .before .before .before .before .before .before .before .before .before .before .before in
+    let a = st .args in
+    let b = c .before .before .before .before .before .before .before .before .before .before .before .block3 in
+    λ u. each-of-three (Agreed st) (st .pre .1 .1 .1)
+    (row-same (a .s) (now (a .«data»)) (now (a .parity)) (b .result .row0) (a .w) 0 (a .j) (a .q) (a .n) _ (ok st) (st .pre .1 .0) (omega (arith, st .pre .1 .1 .1)) (st .pre .1 .1 .0) (known st .data-long) (omega arith) (b .ensures .0) (c .before .before .before .before .before .before .before .before .same-at .ensures (not-false _ (c .before .before .before .before .before .before .before .if1 .left))))
+    (row-same (a .s) (now (a .«data»)) (now (a .parity)) (b .result .row1) (a .w) 1 (a .j) (a .q) (a .n) _ (ok st) (st .pre .1 .0) (omega (arith, st .pre .1 .1 .1)) (st .pre .1 .1 .0) (known st .data-long) (omega arith) (b .ensures .1 .0) (c .before .before .before .before .same-at2 .ensures (not-false _ (c .before .before .before .if2 .left))))
+    (row-same (a .s) (now (a .«data»)) (now (a .parity)) (b .result .row2) (a .w) 2 (a .j) (a .q) (a .n) _ (ok st) (st .pre .1 .0) (omega (arith, st .pre .1 .1 .1)) (st .pre .1 .1 .0) (known st .data-long) (omega arith) (b .ensures .1 .1) (c .same-at3 .ensures u))
+
+pub three-agree-spec : {M : Type 1} → statement M
+three-agree-spec =
+    tie.close (tie.spec mul-at add-at block3-requires same-at-requires returns add-same-at same-at-requires-2 returns-2 add-same-at-2 add-same-at-3 same-at-requires-3 returns-3)

@@ -1,0 +1,53 @@
+-- `stripe::encode::fill_parity` meets its contract: rows are the parity of a plain stripe, rows and piggybacks of a prepared one.
+use mathlib.Core.Path.{_≡_, ap, _∙_}
+use native.Mathlib.Omega.{arith}
+use lib.ListN.{length}
+use borrow.Author.Needs.{needs}
+use Rattle.coding.specs.Encode.{encodeRefusal}
+use Rattle.coding.proofs.Encoded.{ready, rows-are, plain-exact, prepared-exact}
+use Rattle.coding.proofs.encode.fill_parity.Statement.{statement}
+use Rattle.coding.proofs.encode.fill_parity.Tie as tie
+
+fill-rows-requires : tie.Need-fill-rows-requires
+fill-rows-requires c κs =
+    let s = c .before .before .before in
+    let f = ready (s .args .s) _ _ (s .pre) in
+    (f .data-long, (f .parity-long, (f .parity-some, f .parity-most)))
+
+same-length : tie.Need-same-length
+same-length c = search needs
+
+returns : tie.Need-returns
+returns c =
+    let s = c .before .before .before .before .before .before .before in
+    let ps = c .before .before .before .fill-rows .last .1 .1 .1 .1 .0 in
+    let same : length ps ≡ length (s .args .out .now) = search needs in
+    plain-exact (s .args .s) _ (s .args .out .now) ps (s .pre) same (omega arith) (c .before .before .before .fill-rows .ensures)
+
+add-piggybacks-requires : tie.Need-add-piggybacks-requires
+add-piggybacks-requires c κs =
+    let s = c .before .before .before .before .before .before .before .before in
+    let ps = c .before .before .before .before .fill-rows .last .1 .1 .1 .1 .0 in
+    let same : length ps ≡ length (s .args .out .now) = search needs in
+    (ap (encodeRefusal (s .args .s) (length (s .args .«data» .now))) same ∙ s .pre, (omega arith, rows-are (s .args .s) _ ps (c .before .before .before .before .fill-rows .ensures)))
+
+same-length-2 : tie.Need-same-length-2
+same-length-2 c = search needs
+
+returns-2 : tie.Need-returns-2
+returns-2 c =
+    let s = c .before .before .before .before .before .before .before .before .before .before .before in
+    let qs = c .before .before .add-piggybacks .last .1 .1 .0 in
+    let same : length qs ≡ length (s .args .out .now) = search needs in
+    prepared-exact (s .args .s) _ (s .args .out .now) qs (s .pre) same (c .before .before .add-piggybacks .ensures)
+
+pub fill-parity-spec : {M : Type 1} → statement M
+fill-parity-spec =
+    tie.close
+    (tie.spec
+    fill-rows-requires
+    same-length
+    returns
+    add-piggybacks-requires
+    same-length-2
+    returns-2)

@@ -1,0 +1,14 @@
+pub mod Listed
+pub mod Outcome
+pub mod Parts
+pub mod Slots
+pub mod Blocks
+pub mod Filling
+pub mod Among
+pub mod Written
+pub mod Plan
+pub mod Turned
+pub mod Judged
+pub mod Restored
+pub mod Unique
+pub mod Nothing

@@ -1,0 +1,16 @@
+pub mod Foldable
+pub mod Counted
+pub mod Costs
+pub mod Cut
+pub mod Carried
+pub mod Sums
+pub mod Wide
+pub mod Shows
+pub mod Bounds
+pub mod Spans
+pub mod Refusals
+pub mod Unique
+pub mod Stepped
+pub mod Filling
+pub mod Verdict
+pub mod Encoded

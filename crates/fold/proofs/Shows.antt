@@ -1,0 +1,233 @@
+-- What follows from the disagreement identity: codewords carry nothing on, so their fold is the parity of all their data; and what a
+-- stripe holds wrong in a byte that the plan names, it carries on to one place of the wide stripe.
+use mathlib.Core.Path.{_≡_, refl, sym, ap, ap₂, _∙_, subst}
+use mathlib.Core.List.{List, [], _∷_, _++_}
+use mathlib.Core.Logic.{_⊎_, inl, inr}
+use Prim.Native.Nat.{ℕ, zero, suc, _+_, _*_, _/_, _%_, _<_, _≤_}
+use native.Mathlib.Nat.{add-mul, mod-lt, not-suc-le-zero}
+use native.Mathlib.Omega.{arith}
+use lib.Dec.{lit<}
+use lib.ListN.{length, getD, take, length-append}
+use borrow.Author.Tests.{lt-ltb, le-ltb}
+use Rattle.field.specs.Field.{_⊕_, _⊗_, gpow}
+use Rattle.field.specs.Bytes.{Bytes}
+use Rattle.field.proofs.Xor.{add-lt, add-self, add-zero}
+use Rattle.field.proofs.Mul.{mul-pos, gpow-lt, gpow-pos}
+use Rattle.stripe.specs.declared.Shape.{Shape}
+use Rattle.stripe.specs.Shape.{dataLength, stripeLength}
+use Rattle.stripe.specs.Stripe.{parityByte, parity, dataOf, Codeword}
+use Rattle.stripe.proofs.Allowed.{Allowed, Prepared}
+use Rattle.stripe.proofs.Places.{below-or-from, place-lt, place-column, place-byte, place-split, place-column-lt, parity-exact, parity-byte-lt, codeword-checks}
+use Rattle.fold.specs.declared.Kind.{Kind}
+use Rattle.fold.specs.Plan.{kindOf, foldRefusal, plan, wideShape}
+use Rattle.fold.specs.Fold.{runBytes, foldOf, joined, wideData, cutOut, wideStripe, disagreement, parityNamed, runCarried, carried}
+use Rattle.fold.proofs.Foldable.{IsA, IsB, IsC, Foldable, foldable, runs-whole, run-pos}
+use Rattle.fold.proofs.Wide.{fold-length, fold-bytes, answer-is, wide-data, wide-answer, wide-data-length, disagreement-sum}
+use Rattle.fold.proofs.Sums.{map-none, map-one}
+
+pub codeword-agrees : (s : Shape) (zs : List ℕ) (i p : ℕ) → Codeword s zs → i < s .r → p < s .l → disagreement s zs i p ≡ 0
+unfolding disagreement
+codeword-agrees s zs i p w hi hp =
+    ap (λ (x : ℕ). x ⊕ parityByte s (dataOf s zs) i p) (codeword-checks s zs w i p hi hp) ∙ add-self (parityByte s (dataOf s zs) i p)
+
+disagreement-lt : (s : Shape) (zs : List ℕ) (i p : ℕ) → Bytes zs → disagreement s zs i p < 256
+unfolding disagreement
+disagreement-lt s zs i p b = add-lt 8 _ _ (b ((s .k + i) * s .l + p)) (parity-byte-lt s (dataOf s zs) i p)
+
+-- ---- where a disagreement is carried to, run by run
+
+module _ (s : Shape) (zs : List ℕ) (j b e : ℕ) where
+  carried-low : b < s .r → j < s .r → runCarried s zs j b e ≡ disagreement s zs j (b * runBytes s + e)
+  unfolding runCarried
+  carried-low lb lj = simp (lt-ltb b (s .r) lb, lt-ltb j (s .r) lj)
+
+  carried-high : b < s .r → s .r ≤ j → runCarried s zs j b e ≡ disagreement s zs b (j * runBytes s + e)
+  unfolding runCarried
+  carried-high lb gj = simp (lt-ltb b (s .r) lb, le-ltb j (s .r) gj)
+
+  carried-none : s .r ≤ b → runCarried s zs j b e ≡ 0
+  unfolding runCarried
+  carried-none gb = simp (le-ltb b (s .r) gb)
+
+module _ (s : Shape) (a : Allowed s) (h : Prepared s) where
+  abbrev q : ℕ
+  q = runBytes s
+
+  place-in : (b e : ℕ) → b < s .t → e < q → b * q + e < s .l
+  place-in b e hb he = subst (λ (x : ℕ). b * q + e < x) (runs-whole s a h) (place-lt hb he)
+
+  run-lt : (p : ℕ) → p < s .l → p / q < s .t
+  run-lt p hp = place-column-lt p (s .t) q (subst (λ (x : ℕ). p < x) (sym (runs-whole s a h)) hp)
+
+  in-lt : (p : ℕ) → p % q < q
+  in-lt p = mod-lt p (run-pos s a h)
+
+  -- what is carried is the disagreement at one of the stripe's places, or nothing
+  run-from : (zs : List ℕ) (P : ℕ → Type 0) → P 0 → ((i p : ℕ) → i < s .r → p < s .l → P (disagreement s zs i p))
+      → (j p : ℕ) → j < s .t → p < s .l → P (runCarried s zs j (p / q) (p % q))
+  run-from zs P none d j p hj hp = go (below-or-from (p / q) (s .r)) (below-or-from j (s .r))
+    where
+      go : (p / q < s .r) ⊎ (s .r ≤ p / q) → (j < s .r) ⊎ (s .r ≤ j) → P (runCarried s zs j (p / q) (p % q))
+      go (inl lb) (inl lj) =
+          subst P (sym (carried-low s zs j (p / q) (p % q) lb lj)) (d j (p / q * q + p % q) lj (place-in (p / q) (p % q) (run-lt p hp) (in-lt p)))
+      go (inl lb) (inr gj) =
+          subst P (sym (carried-high s zs j (p / q) (p % q) lb gj)) (d (p / q) (j * q + p % q) lb (place-in j (p % q) hj (in-lt p)))
+      go (inr gb) w = subst P (sym (carried-none s zs j (p / q) (p % q) gb)) none
+
+  -- and each of the stripe's parity bytes is carried somewhere
+  run-onto : (zs : List ℕ) (i p : ℕ) → i < s .r → p < s .l
+      → ((j x : ℕ) → j < s .t → x < s .l → runCarried s zs j (x / q) (x % q) ≡ 0) → disagreement s zs i p ≡ 0
+  run-onto zs i p hi hp none = go (below-or-from (p / q) (s .r))
+    where
+      g : s .r < s .t
+      g = h .gains
+
+      go : (p / q < s .r) ⊎ (s .r ≤ p / q) → disagreement s zs i p ≡ 0
+      go (inl lb) =
+          ap (λ (x : ℕ). disagreement s zs i x) (sym (place-split p q))
+          ∙ sym (carried-low s zs i (p / q) (p % q) lb hi) ∙ none i p (omega arith) hp
+      go (inr gb) =
+          let x : i * q + p % q < s .l = place-in i (p % q) (omega arith) (in-lt p) in
+          ap (λ (y : ℕ). disagreement s zs i y) (sym (place-split p q))
+          ∙ sym (carried-high s zs (p / q) i (p % q) hi gb)
+          ∙ sym (ap₂ (runCarried s zs (p / q)) (place-column i (in-lt p)) (place-byte i (in-lt p)))
+          ∙ none (p / q) (i * q + p % q) (run-lt p hp) x
+
+-- ---- all kinds
+
+carried-from : (s : Shape) (f : ℕ) (zs : List ℕ) (P : ℕ → Type 0) → Allowed s → IsA s f ⊎ (IsB s f ⊎ IsC s f) → P 0
+    → ((i p : ℕ) → i < s .r → p < s .l → P (disagreement s zs i p)) → (j p : ℕ) → j < f → p < s .l → P (carried (kindOf s f) s zs j p)
+unfolding carried
+carried-from s f zs P a (inl h) none d j p hj hp =
+    let k : f ≤ s .r = h .enough in subst (λ (κ : Kind). P (carried κ s zs j p)) (sym (h .kind)) (d j p (omega arith) hp)
+carried-from s f zs P a (inr (inl h)) none d j p hj hp =
+    subst (λ (κ : Kind). P (carried κ s zs j p)) (sym (h .kind))
+    (run-from s a (h .prepared) zs P none d j p (subst (λ (x : ℕ). j < x) (sym (h .marked)) hj) hp)
+carried-from s f zs P a (inr (inr h)) none d j p hj hp = subst (λ (κ : Kind). P (carried κ s zs j p)) (sym (h .kind)) none
+
+carried-onto : (s : Shape) (f : ℕ) (zs : List ℕ) → Allowed s → IsA s f ⊎ (IsB s f ⊎ IsC s f)
+    → ((j p : ℕ) → j < f → p < s .l → carried (kindOf s f) s zs j p ≡ 0)
+    → (i p : ℕ) → i < parityNamed (kindOf s f) s f → p < s .l → disagreement s zs i p ≡ 0
+unfolding carried parityNamed
+carried-onto s f zs a (inl h) none i p hi hp =
+    let k : i < f = subst (λ (κ : Kind). i < parityNamed κ s f) (h .kind) hi in
+    subst (λ (κ : Kind). carried κ s zs i p ≡ 0) (h .kind) (none i p k hp)
+carried-onto s f zs a (inr (inl h)) none i p hi hp =
+    run-onto s a (h .prepared) zs i p (subst (λ (κ : Kind). i < parityNamed κ s f) (h .kind) hi) hp
+    (λ j x hj hx. subst (λ (κ : Kind). carried κ s zs j x ≡ 0) (h .kind) (none j x (subst (λ (y : ℕ). j < y) (h .marked) hj) hx))
+carried-onto s f zs a (inr (inr h)) none i p hi hp =
+    absurd (not-suc-le-zero (subst (λ (κ : Kind). i < parityNamed κ s f) (h .kind) hi))
+
+-- ---- bytes
+
+bytes-append : (xs ys : List ℕ) → Bytes xs → Bytes ys → Bytes (xs ++ ys)
+bytes-append [] ys hx hy i = hy i
+bytes-append (x ∷ xs) ys hx hy zero = hx 0
+bytes-append (x ∷ xs) ys hx hy (suc i) = bytes-append xs ys (λ k. hx (suc k)) hy i
+
+pub bytes-take : (n : ℕ) (xs : List ℕ) → Bytes xs → Bytes (take n xs)
+bytes-take zero xs h i = lit< tt
+bytes-take (suc n) [] h i = lit< tt
+bytes-take (suc n) (x ∷ xs) h zero = h 0
+bytes-take (suc n) (x ∷ xs) h (suc i) = bytes-take n xs (λ k. h (suc k)) i
+
+bytes-wide : (s : Shape) (zss : List (List ℕ)) → ((l : ℕ) → l < length zss → Bytes (getD zss l [])) → Bytes (wideData s zss)
+unfolding wideData joined
+bytes-wide s [] h = λ i. lit< tt
+bytes-wide s (zs ∷ zss) h =
+    bytes-append (dataOf s zs) _ (bytes-take (dataLength s) zs (h 0 (omega arith))) (bytes-wide s zss (λ l k. h (suc l) (omega arith)))
+
+wide-all : (s : Shape) (f : ℕ) (zss : List (List ℕ)) → ((l : ℕ) → l < length zss → Bytes (getD zss l [])) → Bytes (wideStripe s (length zss) f zss)
+unfolding wideStripe
+wide-all s f zss h = bytes-append (wideData s zss) _ (bytes-wide s zss h) (fold-bytes s (length zss) f _)
+
+wide-length : (s : Shape) (f : ℕ) (zss : List (List ℕ)) → foldRefusal s (length zss) f ≡ 0
+    → ((l : ℕ) → l < length zss → length (getD zss l []) ≡ stripeLength s)
+    → length (wideStripe s (length zss) f zss) ≡ stripeLength (wideShape s (length zss) f)
+unfolding wideStripe
+wide-length s f zss passed long =
+    length-append (wideData s zss) _ ∙ ap₂ _+_ (wide-data-length s f zss passed long) (fold-length s (length zss) f _)
+    ∙ sym (add-mul (length zss * s .k) f (s .l))
+
+-- ---- the theorems
+
+product-zero : (c x : ℕ) → c < 256 → 0 < c → x < 256 → c ⊗ x ≡ 0 → x ≡ 0
+product-zero c zero hc pc hx e = refl
+product-zero c (suc x) hc pc hx e = let h : 0 < c ⊗ suc x = mul-pos c hc (suc x) hx pc (omega arith) in absurd (omega arith)
+
+-- If all stripes are codewords, the fold of what the plan names of them is the parity of all their data in order.
+module _ (s : Shape) (f : ℕ) (zss : List (List ℕ)) (passed : foldRefusal s (length zss) f ≡ 0)
+    (codewords : (l : ℕ) → l < length zss → Codeword s (getD zss l [])) where
+  able : Foldable s (length zss) f
+  able = foldable s (length zss) f passed
+
+  long : (l : ℕ) → l < length zss → length (getD zss l []) ≡ stripeLength s
+  long l h = codewords l h .long
+
+  nothing : (j p : ℕ) → j < f → p < s .l → (l : ℕ) → l < length zss → carried (kindOf s f) s (getD zss l []) j p ≡ 0
+  nothing j p hj hp l h =
+      carried-from s f (getD zss l []) (λ (x : ℕ). x ≡ 0) (able .shape) (able .kinds) refl
+      (λ i x hi hx. codeword-agrees s (getD zss l []) i x (codewords l h) hi hx) j p hj hp
+
+  pub folded-parity : foldOf s (length zss) f (cutOut s zss (plan s (length zss) f)) ≡ parity (wideShape s (length zss) f) (wideData s zss)
+  folded-parity =
+      parity-exact (wideShape s (length zss) f) (wideData s zss) _ (fold-length s (length zss) f _)
+      (λ j p hj hp.
+      answer-is s f zss passed long j p hj hp
+      ∙ ap (λ (x : ℕ). parityByte (wideShape s (length zss) f) (wideData s zss) j p ⊕ x)
+      (map-none (j * s .k) (λ zs. carried (kindOf s f) s zs j p) zss (nothing j p hj hp))
+      ∙ add-zero _)
+
+  -- the wide stripe is then a codeword
+  pub folded-codeword : Codeword (wideShape s (length zss) f) (wideStripe s (length zss) f zss)
+  folded-codeword =
+      record {
+        bytes = wide-bytes;
+        long = wide-long;
+        exact =
+            wide-answer s f zss passed long ∙ folded-parity
+            ∙ ap (parity (wideShape s (length zss) f)) (sym (wide-data s f zss passed long));
+      }
+    where
+      wide-bytes : Bytes (wideStripe s (length zss) f zss)
+      wide-bytes = wide-all s f zss (λ l h. codewords l h .bytes)
+
+      wide-long : length (wideStripe s (length zss) f zss) ≡ stripeLength (wideShape s (length zss) f)
+      wide-long = wide-length s f zss passed long
+
+-- If all stripes but stripe n are codewords and the wide stripe is one, stripe n agrees with its own parity in every byte that the plan names.
+module _ (s : Shape) (f : ℕ) (zss : List (List ℕ)) (passed : foldRefusal s (length zss) f ≡ 0)
+    (long : (l : ℕ) → l < length zss → length (getD zss l []) ≡ stripeLength s) (n : ℕ) (is : n < length zss) (bytes : Bytes (getD zss n []))
+    (others : (l : ℕ) → l < length zss → (l ≡ n → ⊥) → Codeword s (getD zss l [])) where
+  able-too : Foldable s (length zss) f
+  able-too = foldable s (length zss) f passed
+
+  others-none : (j p : ℕ) → j < f → p < s .l → (l : ℕ) → l < length zss → (l ≡ n → ⊥) → carried (kindOf s f) s (getD zss l []) j p ≡ 0
+  others-none j p hj hp l h ne =
+      carried-from s f (getD zss l []) (λ (x : ℕ). x ≡ 0) (able-too .shape) (able-too .kinds) refl
+      (λ i x hi hx. codeword-agrees s (getD zss l []) i x (others l h ne) hi hx) j p hj hp
+
+  carried-lt : (j p : ℕ) → j < f → p < s .l → carried (kindOf s f) s (getD zss n []) j p < 256
+  carried-lt =
+      carried-from s f (getD zss n []) (λ (x : ℕ). x < 256) (able-too .shape) (able-too .kinds) (lit< tt)
+      (λ i x hi hx. disagreement-lt s (getD zss n []) i x bytes)
+
+  -- the wide stripe's disagreement is that stripe's own, times its weight
+  pub one-disagreement : (j p : ℕ) → j < f → p < s .l
+      → disagreement (wideShape s (length zss) f) (wideStripe s (length zss) f zss) j p ≡ gpow (n * (j * s .k)) ⊗ carried (kindOf s f) s (getD zss n []) j p
+  one-disagreement j p hj hp =
+      disagreement-sum s f zss passed long j p hj hp
+      ∙ map-one (j * s .k) (λ zs. carried (kindOf s f) s zs j p) zss n is (carried-lt j p hj hp) (others-none j p hj hp)
+
+  pub one-agrees : Codeword (wideShape s (length zss) f) (wideStripe s (length zss) f zss)
+      → (i p : ℕ) → i < parityNamed (kindOf s f) s f → p < s .l → disagreement s (getD zss n []) i p ≡ 0
+  one-agrees w =
+      carried-onto s f (getD zss n []) (able-too .shape) (able-too .kinds)
+      (λ j p hj hp.
+      product-zero (gpow (n * (j * s .k))) _ (gpow-lt (n * (j * s .k))) (gpow-pos (n * (j * s .k))) (carried-lt j p hj hp)
+      (sym (one-disagreement j p hj hp) ∙ codeword-agrees (wideShape s (length zss) f) (wideStripe s (length zss) f zss) j p w hj hp))
+
+  -- So if exactly one stripe disagrees with its own parity, in a byte that the plan names, the wide stripe is no codeword.
+  pub one-shows : (i p : ℕ) → i < parityNamed (kindOf s f) s f → p < s .l → (disagreement s (getD zss n []) i p ≡ 0 → ⊥)
+      → Codeword (wideShape s (length zss) f) (wideStripe s (length zss) f zss) → ⊥
+  one-shows i p hi hp wrong w = wrong (one-agrees w i p hi hp)

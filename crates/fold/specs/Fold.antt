@@ -1,0 +1,121 @@
+-- The fold (document 01, 'Folding'): its answer for all bytes, codewords or not, from the joined bytes of the plan; and the bytes
+-- that the plan names of whole stripes.
+use Prim.Native.Nat.{ℕ, zero, suc, _+_, _-_, _*_, _/_, _%_}
+use mathlib.Core.Bool.{cond}
+use mathlib.Core.List.{List, [], _∷_, _++_, map}
+use lib.Dec.{ltb}
+use lib.ListN.{getD, take, drop}
+use Rattle.field.specs.Field.{_⊕_}
+use Rattle.field.specs.Bytes.{tabulate}
+use Rattle.field.specs.Row.{row}
+use Rattle.stripe.specs.declared.Shape.{Shape}
+use Rattle.stripe.specs.Stripe.{across, parityByte, dataOf}
+use Rattle.fold.specs.declared.Span.{Span}
+use Rattle.fold.specs.declared.Kind.{Kind}
+use Rattle.fold.specs.declared.Kind.the-variants.{A, B, C}
+use Rattle.fold.specs.Plan.{kindOf, bytesEach, kindSpans, plan}
+
+-- ---- kind B: what is read of a stripe is a part of each data column, the runs r to t-1, then the parity columns
+
+-- the bytes of a run
+abbrev pub runBytes : Shape → ℕ
+runBytes s = s .l / s .t
+
+-- the bytes read of a data column
+abbrev pub partBytes : Shape → ℕ
+partBytes s = (s .t - s .r) * runBytes s
+
+-- the byte of parity column i at place p
+unfoldable pub readParity : Shape → List ℕ → ℕ → ℕ → ℕ
+readParity s xs i p = getD xs (s .k * partBytes s + (i * s .l + p)) 0
+
+-- row i of run b of the data, at place e of the run; b >= r
+unfoldable pub readRow : Shape → List ℕ → ℕ → ℕ → ℕ → ℕ
+readRow s xs i b e = row i (across xs (partBytes s) ((b - s .r) * runBytes s + e) 0 (s .k))
+
+-- what a stripe adds to wide row j at place e of run b. If b >= r: row j of the data. If b < r: run b of parity column j if
+-- j < r; if j >= r, run j of parity column b plus row b of run j
+unfoldable pub runShare : Shape → List ℕ → ℕ → ℕ → ℕ → ℕ
+runShare s xs j b e =
+    cond (ltb b (s .r))
+    (cond (ltb j (s .r)) (readParity s xs j (b * runBytes s + e))
+    (readParity s xs b (j * runBytes s + e) ⊕ readRow s xs b j e))
+    (readRow s xs j b e)
+
+-- ---- all kinds
+
+-- what a stripe adds to wide row j at place p, from the bytes read of it. A: its parity column j. B: run by run. C: row j of its data
+unfoldable pub share : Kind → Shape → List ℕ → ℕ → ℕ → ℕ
+share A s xs j p = getD xs (j * s .l + p) 0
+share B s xs j p = runShare s xs j (p / runBytes s) (p % runBytes s)
+share C s xs j p = row j (across xs (s .l) p 0 (s .k))
+
+-- wide row j at place p: the sum over the stripes l, in order, of g^(j*k*l) times what the stripe adds, which is row j*k of that
+unfoldable pub foldByte : Kind → Shape → List (List ℕ) → ℕ → ℕ → ℕ
+foldByte κ s xss j p = row (j * s .k) (map (λ xs. share κ s xs j p) xss)
+
+-- the f parity columns of the wide stripe, in order, from the bytes read of each stripe
+unfoldable pub foldStripes : Shape → ℕ → List (List ℕ) → List ℕ
+foldStripes s f xss = tabulate (f * s .l) (λ i. foldByte (kindOf s f) s xss (i / s .l) (i % s .l))
+
+-- n parts of m bytes each
+unfoldable pub parts : ℕ → ℕ → List ℕ → List (List ℕ)
+parts m zero xs = []
+parts m (suc n) xs = take m xs ∷ parts m n (drop m xs)
+
+-- the fold's answer, from the joined bytes of the plan
+unfoldable pub foldOf : Shape → ℕ → ℕ → List ℕ → List ℕ
+foldOf s n f xs = foldStripes s f (parts (bytesEach (kindOf s f) s f) n xs)
+
+-- ---- whole stripes
+
+-- lists one after the other
+unfoldable pub joined : List (List ℕ) → List ℕ
+joined [] = []
+joined (xs ∷ xss) = xs ++ joined xss
+
+-- the data of the wide stripe: the data of all stripes in order
+unfoldable pub wideData : Shape → List (List ℕ) → List ℕ
+wideData s zss = joined (map (λ zs. dataOf s zs) zss)
+
+-- the bytes that a span names
+unfoldable pub named : Shape → List (List ℕ) → Span → List ℕ
+named s zss x = take (x .length) (drop (x .position * s .l + x .first) (getD zss (x .stripe) []))
+
+-- the bytes that spans name of whole stripes, joined in their order
+unfoldable pub cutOut : Shape → List (List ℕ) → List Span → List ℕ
+cutOut s zss [] = []
+cutOut s zss (x ∷ xs) = named s zss x ++ cutOut s zss xs
+
+-- the bytes that the plan names of one stripe
+unfoldable pub readOf : Kind → Shape → ℕ → List ℕ → List ℕ
+readOf κ s f zs = cutOut s (zs ∷ []) (kindSpans κ s f 0)
+
+-- the wide stripe: the data of all stripes, and the fold of what the plan names of them
+unfoldable pub wideStripe : Shape → ℕ → ℕ → List (List ℕ) → List ℕ
+wideStripe s n f zss = wideData s zss ++ foldOf s n f (cutOut s zss (plan s n f))
+
+-- ---- stripes that are no codewords
+
+-- a stripe's disagreement at place p of parity column i: the byte it holds plus the byte by definition
+unfoldable pub disagreement : Shape → List ℕ → ℕ → ℕ → ℕ
+disagreement s zs i p = getD zs ((s .k + i) * s .l + p) 0 ⊕ parityByte s (dataOf s zs) i p
+
+-- how many parity columns the plan names of a stripe; they are the first ones
+unfoldable pub parityNamed : Kind → Shape → ℕ → ℕ
+parityNamed A s f = f
+parityNamed B s f = s .r
+parityNamed C s f = 0
+
+-- the disagreement of a stripe that its fold carries on to place e of run b of wide row j: none if b >= r
+unfoldable pub runCarried : Shape → List ℕ → ℕ → ℕ → ℕ → ℕ
+runCarried s zs j b e =
+    cond (ltb b (s .r))
+    (cond (ltb j (s .r)) (disagreement s zs j (b * runBytes s + e)) (disagreement s zs b (j * runBytes s + e)))
+    0
+
+-- the disagreement of a stripe that its fold carries on to place p of wide row j
+unfoldable pub carried : Kind → Shape → List ℕ → ℕ → ℕ → ℕ
+carried A s zs j p = disagreement s zs j p
+carried B s zs j p = runCarried s zs j (p / runBytes s) (p % runBytes s)
+carried C s zs j p = 0

@@ -1,0 +1,4 @@
+pub mod Plan
+pub mod Cost
+pub mod Fold
+pub mod Shares

@@ -1,0 +1,62 @@
+-- The lost positions put at the front of a list, one at a time.
+use Prim.Native.Nat.{ℕ, suc, _+_, _-_, _≤_, _<_}
+use mathlib.Core.Path.{_≡_, refl, sym, ap, _∙_}
+use mathlib.Core.Bool.{Bool, true, false, cond}
+use mathlib.Core.List.{List, [], _∷_, _++_}
+use native.Mathlib.Numerals.{add-one}
+use native.Mathlib.Omega.{arith}
+use lib.Dec.{leb}
+use lib.ListN.{length, getD, take, drop, set, take-append-drop}
+use lib.Seq.{take-suc-set, drop-set-lt, append-snoc}
+use borrow.Author.Tests.{leb-true}
+use Rattle.record.specs.declared.number.Number.{Number}
+use Rattle.record.specs.declared.number.Number.the-variants.{Value, Cut, Malformed}
+use Rattle.record.specs.Number.{numberAt, limited, groupsAt}
+use Rattle.record.specs.Reading.{valueOf, nextOf, positionsAt}
+
+-- a number is at most 2^32-1
+limited-most : (g : Number) → valueOf (limited g) ≤ 4294967295
+limited-most (Value v next) = go (leb v 4294967295) refl
+  where
+    go : (b : Bool) → leb v 4294967295 ≡ b → valueOf (cond b (Value v next) Malformed) ≤ 4294967295
+    go true e = leb-true v 4294967295 e
+    go false e = omega arith
+limited-most Cut = omega arith
+limited-most Malformed = omega arith
+
+pub value-most : (s : List ℕ) (at : ℕ) → valueOf (numberAt s at) ≤ 4294967295
+value-most s at = limited-most (groupsAt 5 s at)
+
+-- the positions from the i-th on, and the next of them
+pub positions-next : (s : List ℕ) (m i at : ℕ) → i < m → positionsAt s (m - i) at ≡ valueOf (numberAt s at) ∷ positionsAt s (m - (i + 1)) (nextOf (numberAt s at))
+unfolding positionsAt
+positions-next s m i at h =
+    let e : m - i ≡ suc (m - (i + 1)) = omega arith in
+    ap (λ (n : ℕ). positionsAt s n at) e
+
+pub positions-none : (s : List ℕ) (m i at : ℕ) → m ≤ i → positionsAt s (m - i) at ≡ []
+unfolding positionsAt
+positions-none s m i at h =
+    let e : m - i ≡ 0 = omega arith in
+    ap (λ (n : ℕ). positionsAt s n at) e
+
+pub positions-small : (s : List ℕ) (m i at : ℕ) → i < m → ((j : ℕ) → getD (positionsAt s (m - i) at) j 0 < 65536)
+    → (valueOf (numberAt s at) < 65536) × ((j : ℕ) → getD (positionsAt s (m - (i + 1)) (nextOf (numberAt s at))) j 0 < 65536)
+positions-small s m i at h small =
+    let e = positions-next s m i at h in
+    (rw e at (small 0), λ j. rw e at (small (suc j)))
+
+pub list-turn : (s lost : List ℕ) (m i at v : ℕ) → i < m → m ≤ length lost → v ≡ valueOf (numberAt s at)
+    → take (i + 1) (set lost i v) ++ (positionsAt s (m - (i + 1)) (nextOf (numberAt s at)) ++ drop m (set lost i v)) ≡ take i lost ++ (positionsAt s (m - i) at ++ drop m lost)
+list-turn s lost m i at v h l e =
+    ap (λ (n : ℕ). take n (set lost i v) ++ (positionsAt s (m - (i + 1)) (nextOf (numberAt s at)) ++ drop m (set lost i v))) (add-one i)
+    ∙ ap (λ (xs : List ℕ). xs ++ (positionsAt s (m - (i + 1)) (nextOf (numberAt s at)) ++ drop m (set lost i v))) (take-suc-set lost i v (omega arith))
+    ∙ append-snoc (take i lost) v (positionsAt s (m - (i + 1)) (nextOf (numberAt s at)) ++ drop m (set lost i v))
+    ∙ ap (λ (xs : List ℕ). take i lost ++ (v ∷ (positionsAt s (m - (i + 1)) (nextOf (numberAt s at)) ++ xs))) (drop-set-lt m lost i v h)
+    ∙ ap (λ (x : ℕ). take i lost ++ (x ∷ (positionsAt s (m - (i + 1)) (nextOf (numberAt s at)) ++ drop m lost))) e
+    ∙ ap (λ (xs : List ℕ). take i lost ++ (xs ++ drop m lost)) (sym (positions-next s m i at h))
+
+pub list-done : (s lost : List ℕ) (m i at : ℕ) → m ≤ i → i ≤ m → take i lost ++ (positionsAt s (m - i) at ++ drop m lost) ≡ lost
+list-done s lost m i at h k =
+    let e : i ≡ m = omega arith in
+    ap (λ (xs : List ℕ). take i lost ++ (xs ++ drop m lost)) (positions-none s m i at h) ∙ ap (λ (n : ℕ). take n lost ++ drop m lost) e ∙ take-append-drop m lost

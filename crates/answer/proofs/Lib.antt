@@ -1,0 +1,9 @@
+pub mod Over
+pub mod Pieces
+pub mod Lines
+pub mod Printed
+pub mod Pairs
+pub mod Reading
+pub mod Outcome
+pub mod Worked
+pub mod Unique

@@ -1,0 +1,186 @@
+/* Stripes for the shelf daemon: k data columns and r parity columns of l bytes each, over the field of 256 elements.
+ *
+ * The library is libshelf.a. Each function here is proved, for every input, to return and write what this page says. It keeps no
+ * state, takes no memory and calls nothing, so any thread may call it.
+ *
+ * Numbers come as they come: none of them has to be checked before a call. A function that can refuse returns 0 (SHELF_OK), or the
+ * number of a refusal, and a refusal writes nothing. Where several refusals apply, the lowest number is returned.
+ *
+ * The numbers of a stripe:
+ *
+ *   k   data columns, 1 to 255, at positions 0 to k-1
+ *   r   parity columns, 1 to 3, at positions k to k+r-1
+ *   t   0 for a plain stripe, else the parity count that the stripe is prepared to gain: r < t <= 3 and t <= k
+ *   l   bytes of a column, 1 to 4096, and divisible by t if t is not 0
+ *
+ * Columns stand one after another: byte p of column c is byte c * l + p of its buffer.
+ *
+ * A byte is a polynomial over two elements, bit 0 the constant term, reduced by x^8+x^4+x^3+x^2+1 (hex 11D). A sum is an exclusive
+ * or, and g is the byte 02. Row j of k columns is, at each place, the sum over the columns i of g^(i*j) times the byte there. A
+ * codeword is a stripe whose parity columns hold what shelf_encode writes; any k columns of a codeword determine it.
+ *
+ * A fold makes one wide stripe, plain, of several stripes of the same numbers: its data columns are theirs in order, and it gets f
+ * parity columns. The two further numbers of a fold:
+ *
+ *   stripes   how many stripes are folded, 2 to 255, with stripes * k <= 255
+ *   f         parity columns of the wide stripe, 1 to 3, and f = t if t is not 0
+ *
+ * Its plan says which bytes are read: one span per column read, the stripes in order and in each the positions in order. If t is 0,
+ * f <= r and f <= k, these are the parity columns 0 to f-1 of each stripe, whole. If t is not 0, the bytes from r * (l/t) on of each
+ * data column, and every parity column, whole. Else every data column, whole. The longest plan has 425 spans.
+ *
+ * The caller's duties, which no function can check:
+ *   - a pointer beside a length that is not 0 points to that many bytes or records, which may be read, and written where it is not
+ *     const, and is aligned for its type;
+ *   - no two buffers of a call overlap, and nobody else writes them during the call;
+ *   - a pointer beside a length of 0 may be anything, NULL too, and is not followed.
+ *
+ * An example with columns of one byte (c/fold_month.c is a longer one, which runs):
+ *
+ *   uint8_t a[4] = {1, 2}, b[4] = {3, 4};                     two stripes of 2 + 2 columns
+ *   shelf_encode(2, 2, 0, 1, a, 2, a + 2, 2);                 SHELF_OK: a is 01 02 03 05
+ *   shelf_encode(2, 2, 0, 1, b, 2, b + 2, 2);                 SHELF_OK: b is 03 04 07 0B
+ *
+ *   struct shelf_span spans[4];                               the fold of both: columns 2 and 3 of each are read
+ *   shelf_plan_spans(2, 2, 0, 1, 2, 2, spans, 4);             SHELF_OK: {0, 2, 0, 1} {0, 3, 0, 1} {1, 2, 0, 1} {1, 3, 0, 1}
+ *   uint8_t read[4] = {a[2], a[3], b[2], b[3]};
+ *   uint8_t wide[6] = {1, 2, 3, 4};
+ *   shelf_fold(2, 2, 0, 1, 2, 2, read, 4, wide + 4, 2);       SHELF_OK: wide is 01 02 03 04 04 29, one stripe of 4 + 2 columns
+ *
+ *   const uint8_t lost[4] = {0, 0, 3, 0};                     columns 0 and 3 are lost
+ *   wide[0] = wide[3] = 0;
+ *   shelf_mend(4, 2, 0, 1, wide, 6, lost, 4);                 SHELF_OK: wide is again 01 02 03 04 04 29
+ *   wide[1] = 6;                                              a stale column
+ *   shelf_mend(4, 2, 0, 1, wide, 6, NULL, 0);                 SHELF_DISAGREES: the check
+ */
+#ifndef SHELF_H
+#define SHELF_H
+
+#include <stddef.h>
+#include <stdint.h>
+
+#ifdef __cplusplus
+extern "C" {
+#endif
+
+/* What a function returns. */
+enum {
+    SHELF_OK = 0,
+    SHELF_SHAPE = 1,         /* k, r or t is not allowed */
+    SHELF_LENGTH = 2,        /* l is not allowed */
+    SHELF_STRIPES = 3,       /* the number of stripes is not 2 to 255, or stripes * k is above 255 */
+    SHELF_NEW_PARITY = 4,    /* f is not allowed */
+    SHELF_BUFFER = 5,        /* a buffer has another length than stated (a list of spans: is too short) */
+    SHELF_LOST = 6,          /* lost positions do not strictly ascend, or one is not below k + r */
+    SHELF_TOO_MANY_LOST = 7, /* more than r positions are lost */
+    SHELF_DISAGREES = 8      /* no codeword agrees with all columns that survive */
+};
+
+/* Fills the parity columns of a stripe.
+ *
+ *   k, r, t, l           the numbers of the stripe
+ *   data, data_len       the data columns 0 to k-1 in order: data_len is k * l. They are read and stay as they are.
+ *   parity, parity_len   the parity columns 0 to r-1 in order: parity_len is r * l. What they held does not matter.
+ *
+ * Parity column j of a plain stripe holds row j of the data columns. A prepared stripe's columns are cut into t runs of l/t bytes,
+ * run 0 first, and bytes at the same place in the runs go together: its parity column i holds in run j row i of the data columns'
+ * runs j, and if j >= r row j of their runs i is added to it.
+ *
+ * Returns 0: all r * l parity bytes are written. Returns 1, 2 or 5, in this order: nothing is written.
+ */
+uint32_t shelf_encode(uint64_t k, uint64_t r, uint64_t t, uint64_t l,
+                      const uint8_t *data, size_t data_len, uint8_t *parity, size_t parity_len);
+
+/* Mends the lost columns of a stripe, or checks one with nothing lost.
+ *
+ *   k, r, t, l          the numbers of the stripe
+ *   stripe, stripe_len  all columns in order, data first: stripe_len is (k + r) * l
+ *   lost, lost_len      the positions of the lost columns, strictly ascending, two bytes each, the low byte first: lost_len is twice
+ *                       their number, and 0 if nothing is lost
+ *
+ * All other columns survive and stay as they are. Returns 0: the lost columns are written, and the stripe is the only codeword that
+ * agrees with every survivor. What the lost columns held counts for nothing. Returns 1, 2, 5 (an odd lost_len too), 6, 7 or 8, in
+ * this order: nothing is written.
+ *
+ * With nothing lost, 0 says that the stripe is a codeword and 8 that it is none. With exactly r lost 8 never comes: any k columns
+ * agree with some codeword, so a stale one among them can't show.
+ */
+uint32_t shelf_mend(uint64_t k, uint64_t r, uint64_t t, uint64_t l,
+                    uint8_t *stripe, size_t stripe_len, const uint8_t *lost, size_t lost_len);
+
+/* The bytes that a plan reads of one column.
+ *
+ *   stripe     the number of the stripe, from 0
+ *   position   the column in that stripe: i for data column i, k + j for parity column j
+ *   first      the offset in the column of the first byte read
+ *   length     how many bytes are read
+ */
+struct shelf_span { uint32_t stripe, position, first, length; };
+
+/* Whether stripes of these numbers can be folded.
+ *
+ *   k, r, t, l   the numbers of the stripes
+ *   stripes, f   the numbers of the fold
+ *
+ * Returns 0, or 1, 2, 3 or 4, in this order. Nothing is written.
+ */
+uint32_t shelf_plan_refusal(uint64_t k, uint64_t r, uint64_t t, uint64_t l, uint64_t stripes, uint64_t f);
+
+/* How many columns the plan of a fold reads: the number of its spans.
+ *
+ *   k, r, t, l   the numbers of the stripes
+ *   stripes, f   the numbers of the fold
+ *
+ * Returns the number of columns, which is 0 only where shelf_plan_refusal is not 0. Nothing is written.
+ */
+uint64_t shelf_plan_columns_read(uint64_t k, uint64_t r, uint64_t t, uint64_t l, uint64_t stripes, uint64_t f);
+
+/* How many bytes the plan of a fold reads: the lengths of its spans, summed.
+ *
+ *   k, r, t, l   the numbers of the stripes
+ *   stripes, f   the numbers of the fold
+ *
+ * Returns the number of bytes, which is 0 only where shelf_plan_refusal is not 0. Nothing is written.
+ */
+uint64_t shelf_plan_bytes_read(uint64_t k, uint64_t r, uint64_t t, uint64_t l, uint64_t stripes, uint64_t f);
+
+/* Writes the spans of the plan of a fold.
+ *
+ *   k, r, t, l         the numbers of the stripes
+ *   stripes, f         the numbers of the fold
+ *   spans, spans_len   the list to fill: spans_len records, at least as many as shelf_plan_columns_read says. What they held does
+ *                      not matter.
+ *
+ * Returns 0: the spans stand in order at the front of the list, and the records after the last span stay as they are. Returns 1, 2,
+ * 3, 4, or 5 where spans_len is less than the plan's number of spans, in this order: nothing is written.
+ */
+uint32_t shelf_plan_spans(uint64_t k, uint64_t r, uint64_t t, uint64_t l, uint64_t stripes, uint64_t f,
+                          struct shelf_span *spans, size_t spans_len);
+
+/* Fills the parity columns of the wide stripe of a fold.
+ *
+ *   k, r, t, l           the numbers of the stripes
+ *   stripes, f           the numbers of the fold
+ *   read, read_len       the bytes of the plan's spans, one span after another in the plan's order: read_len is
+ *                        shelf_plan_bytes_read. They are read and stay as they are.
+ *   parity, parity_len   the parity columns 0 to f-1 of the wide stripe in order: parity_len is f * l. What they held does not
+ *                        matter.
+ *
+ * The parity is that which shelf_encode fills in for the plain stripe of stripes * k data columns and f parity columns, if the
+ * stripes that the bytes were read of held their own parity.
+ *
+ * For any bytes, parity column j holds, at each place, the sum over the stripes s, from 0, of g^(s*j*k) times what the stripe adds.
+ * That is the byte of its parity column j where the plan reads parity columns alone, and row j of its data where it reads data
+ * columns alone. If t is not 0, it is in run b, if b >= r, row j of run b of its data; if b < r and j < r, run b of its parity
+ * column j; and if b < r and j >= r, run j of its parity column b plus row b of run j of its data.
+ *
+ * Returns 0: all f * l parity bytes are written. Returns 1, 2, 3, 4 or 5, in this order: nothing is written.
+ */
+uint32_t shelf_fold(uint64_t k, uint64_t r, uint64_t t, uint64_t l, uint64_t stripes, uint64_t f,
+                    const uint8_t *read, size_t read_len, uint8_t *parity, size_t parity_len);
+
+#ifdef __cplusplus
+}
+#endif
+
+#endif

@@ -1,0 +1,4 @@
+pub mod Answered
+pub mod Longest
+pub mod Stored
+pub mod Unique

@@ -1,0 +1,160 @@
+// The calls of the shelf daemon, for C: numbers and byte slices come in, 0 or the number of a refusal goes back. `c/shelf.h`
+// documents them. Each is thin over a proved function of a crate below, and refuses bad numbers and lengths itself.
+use coding::encode::encode;
+use fold::Span;
+use fold::bytes_read;
+use fold::columns_read;
+use fold::fold;
+use fold::fold_refusal;
+use fold::span_at;
+use mending::mend;
+use stripe::Shape;
+ghost use mathlib.Core.Path.{_≡_};
+ghost use lib.ListN.{length};
+ghost use Rattle.coding.specs.Encode.{encodeRefusal, encoded};
+ghost use Rattle.fold.specs.Plan.{foldRefusal, columnsRead, bytesRead, spanAt};
+ghost use Rattle.fold.specs.Shares.{foldVerdict, foldFilled};
+ghost use Rattle.mending.specs.Mend.{Mended};
+ghost use Rattle.shelf.specs.Shelf.{shapeOf, spansRefusal, spansAnswer, spansFilled};
+
+// The shape of these numbers.
+fn shape_of(k: u64, r: u64, t: u64, l: u64) -> Shape
+    ensures { λ v. ⌜ v ≡ shapeOf k r t l ⌝ }
+{
+    Shape::new(k as usize, r as usize, t as usize, l as usize)
+}
+
+// 0, and the parity of the data is filled in; or 1, 2 or 5, and nothing is written.
+#[no_mangle]
+pub extern "C" fn shelf_encode(
+    k: u64,
+    r: u64,
+    t: u64,
+    l: u64,
+    data: &[u8],
+    parity: &mut [u8],
+) -> u32
+    ensures { λ v. ⌜ v ≡ encodeRefusal (shapeOf k r t l) (length (now («data» .entry))) (length (now (parity .entry))) ⌝ }
+    ensures { λ _. ⌜ now (parity .exit) ≡ encoded (shapeOf k r t l) (now («data» .entry)) (now (parity .entry)) ⌝ }
+{
+    let s = shape_of(k, r, t, l);
+    encode(s, data, parity)
+}
+
+// 0, and the lost columns are mended; or 1, 2, 5, 6, 7 or 8, and nothing is written.
+#[no_mangle]
+pub extern "C" fn shelf_mend(k: u64, r: u64, t: u64, l: u64, stripe: &mut [u8], lost: &[u8]) -> u32
+    ensures { λ v. ⌜ Mended (shapeOf k r t l) (now (lost .entry)) (now (stripe .entry)) v (now (stripe .exit)) ⌝ }
+{
+    let s = shape_of(k, r, t, l);
+    mend(s, stripe, lost)
+}
+
+// 0, and the parity of the wide stripe is filled in from the bytes of the plan; or 1 to 5, and nothing is written.
+#[no_mangle]
+pub extern "C" fn shelf_fold(
+    k: u64,
+    r: u64,
+    t: u64,
+    l: u64,
+    stripes: u64,
+    f: u64,
+    read: &[u8],
+    parity: &mut [u8],
+) -> u32
+    ensures { λ v. ⌜ v ≡ foldVerdict (shapeOf k r t l) stripes f (length (now (read .entry))) (length (now (parity .entry))) ⌝ }
+    ensures { λ _. ⌜ now (parity .exit) ≡ foldFilled (shapeOf k r t l) stripes f (now (read .entry)) (now (parity .entry)) ⌝ }
+{
+    let s = shape_of(k, r, t, l);
+    fold(s, stripes as usize, f as usize, read, parity)
+}
+
+// 0 where these stripes can be folded; or 1 to 4.
+#[no_mangle]
+pub extern "C" fn shelf_plan_refusal(k: u64, r: u64, t: u64, l: u64, stripes: u64, f: u64) -> u32
+    ensures { λ v. ⌜ v ≡ foldRefusal (shapeOf k r t l) stripes f ⌝ }
+{
+    let s = shape_of(k, r, t, l);
+    fold_refusal(s, stripes as usize, f as usize)
+}
+
+// How many columns the plan reads; 0 where the fold is refused.
+#[no_mangle]
+pub extern "C" fn shelf_plan_columns_read(
+    k: u64,
+    r: u64,
+    t: u64,
+    l: u64,
+    stripes: u64,
+    f: u64,
+) -> u64
+    ensures { λ v. ⌜ v ≡ columnsRead (shapeOf k r t l) stripes f ⌝ }
+{
+    let s = shape_of(k, r, t, l);
+    columns_read(s, stripes as usize, f as usize).number()
+}
+
+// How many bytes the plan reads; 0 where the fold is refused.
+#[no_mangle]
+pub extern "C" fn shelf_plan_bytes_read(k: u64, r: u64, t: u64, l: u64, stripes: u64, f: u64) -> u64
+    ensures { λ v. ⌜ v ≡ bytesRead (shapeOf k r t l) stripes f ⌝ }
+{
+    let s = shape_of(k, r, t, l);
+    bytes_read(s, stripes as usize, f as usize).number()
+}
+
+// What is answered to a call for the spans of a plan: the refusal, and how many spans are written.
+struct Answer {
+    no: u32,
+    spans: usize,
+}
+
+// The answer for a list of so many records: 1 to 4 where the fold is refused, 5 where the plan has more spans.
+fn spans_answer(k: u64, r: u64, t: u64, l: u64, stripes: u64, f: u64, room: usize) -> Answer
+    ensures { λ v. ⌜ v ≡ spansAnswer (shapeOf k r t l) stripes f room ⌝ }
+{
+    let s = shape_of(k, r, t, l);
+    let no = fold_refusal(s, stripes as usize, f as usize);
+    if no != 0 {
+        return Answer { no: no, spans: 0 };
+    }
+    let n = columns_read(s, stripes as usize, f as usize).number();
+    if (room as u64) < n {
+        return Answer { no: 5, spans: 0 };
+    }
+    Answer {
+        no: 0,
+        spans: n as usize,
+    }
+}
+
+// Span number i of the plan.
+fn plan_span(k: u64, r: u64, t: u64, l: u64, stripes: u64, f: u64, i: usize) -> Span
+    ensures { λ v. ⌜ v ≡ spanAt (shapeOf k r t l) stripes f i ⌝ }
+{
+    let s = shape_of(k, r, t, l);
+    span_at(s, stripes as usize, f as usize, i)
+}
+
+// 0, and the spans of the plan stand in order at the front of the list, whose rest stays; or 1 to 5, and nothing is written.
+#[no_mangle]
+pub extern "C" fn shelf_plan_spans(
+    k: u64,
+    r: u64,
+    t: u64,
+    l: u64,
+    stripes: u64,
+    f: u64,
+    spans: &mut [Span],
+) -> u32
+    ensures { λ v. ⌜ (v ≡ spansRefusal (shapeOf k r t l) stripes f (length (now (spans .entry)))) × (now (spans .exit) ≡ spansFilled (shapeOf k r t l) stripes f (now (spans .entry))) ⌝ }
+{
+    let answer = spans_answer(k, r, t, l, stripes, f, spans.len());
+    let n = answer.spans;
+    let mut i = 0;
+    while i < n {
+        spans[i] = plan_span(k, r, t, l, stripes, f, i);
+        i += 1;
+    }
+    answer.no
+}

@@ -1,0 +1,465 @@
+/* Compares the archive with the second program, call by call: every answer, every byte of the lent buffers, and the guard bytes around
+ * them. usage: cases CALLS SEED. The last line is the verdict; exit 0 where all agree and enough was covered. */
+#include "call.h"
+#include "has.h"
+#include "random.h"
+#include "records.h"
+
+#include <inttypes.h>
+#include <stdio.h>
+#include <stdlib.h>
+#include <string.h>
+
+enum { LINES = 9 };
+
+#define BITS_SHAPE (1 << 1 | 1 << 2)
+#define BITS_PLAN (BITS_SHAPE | 1 << 3 | 1 << 4)
+
+/* The calls that the archive has: how often each is made, and which lines of the refusal table it can give. */
+static const struct { const char *name; unsigned often, lines; } ops[OPS] = {
+#ifdef SHELF_HAS_ENCODE
+    [ENCODE] = {"encode", 20, BITS_SHAPE | 1 << 5},
+#endif
+#ifdef SHELF_HAS_MEND
+    [MEND] = {"mend", 35, BITS_SHAPE | 1 << 5 | 1 << 6 | 1 << 7 | 1 << 8},
+#endif
+#ifdef SHELF_HAS_FOLD
+    [FOLD] = {"fold", 20, BITS_PLAN | 1 << 5},
+#endif
+#ifdef SHELF_HAS_PLAN_REFUSAL
+    [PLAN_REFUSAL] = {"plan_refusal", 5, BITS_PLAN},
+#endif
+#ifdef SHELF_HAS_PLAN_COLUMNS_READ
+    [PLAN_COLUMNS] = {"plan_columns_read", 5, BITS_PLAN},
+#endif
+#ifdef SHELF_HAS_PLAN_BYTES_READ
+    [PLAN_BYTES] = {"plan_bytes_read", 5, BITS_PLAN},
+#endif
+#ifdef SHELF_HAS_PLAN_SPANS
+    [PLAN_SPANS] = {"plan_spans", 10, BITS_PLAN | 1 << 5},
+#endif
+};
+
+static struct {
+    uint64_t calls, lines[LINES], pairs[LINES][LINES];         /* line 0: accepted. Pairs: the line given, and the next that holds too */
+} covered[OPS];
+static uint64_t shapes[4][4], kinds[3], lost_in[4][4][4], differences;      /* accepted: (r, t); A, B, C; (r, lost in data, in parity) */
+
+/* ---- one case: the call, what it is lent, and what is to be seen afterwards ---- */
+
+static struct call c;
+static uint8_t a[MOST_BYTES], b[MOST_BYTES], want_a[MOST_BYTES], want_b[MOST_BYTES];
+
+static struct shape shape_of(void) { return (struct shape){c.num[0], c.num[1], c.num[2], c.num[3]}; }
+static struct fold fold_of(void) { return (struct fold){shape_of(), c.num[4], c.num[5]}; }
+static int holds(unsigned lines, unsigned number) { return lines >> number & 1; }
+
+/* A number that a careless reader takes for `near`, or that lies at an edge of document 01's table. */
+static uint64_t hostile(uint64_t near)
+{
+    static const uint64_t edges[] = {0, 1, 2, 3, 4, 254, 255, 256, 257, 4095, 4096, 4097, (uint64_t)1 << 32, (uint64_t)1 << 63};
+    switch (below(8)) {
+    case 0: return near + 1;
+    case 1: return near - 1;
+    case 2: return near + ((uint64_t)1 << 8 * (1 + below(7)));
+    case 3: return near + ((uint64_t)1 << 63);
+    case 4: return 0 - near;
+    case 5: return ~(uint64_t)0 - below(3);
+    case 6: return any();
+    default: return edges[below(sizeof edges / sizeof *edges)];
+    }
+}
+
+/* One of `count` numbers from `first` on put just past its edge, or changed anyhow, until the line holds. */
+static void spoil(unsigned number, uint64_t first, uint64_t count)
+{
+    do {
+        uint64_t which = first + below(count), past[6] = {256, 4, c.num[1], 4097, c.num[0] == 0 ? 256 : 255 / c.num[0] + 1, 4};
+        c.num[which] = below(3) == 0 ? past[which] : hostile(c.num[which]);
+    } while (!holds(plan_lines(fold_of()), number));
+}
+
+/* Allowed numbers, and then those changed that the faults 1 to 4 name; now and then any of them. The allowed ones come back. */
+static struct fold numbers(unsigned faults)
+{
+    struct fold w = {any_shape(), 0, 0};
+    if (c.op == MEND && w.s.t == 0 && below(4) != 0)
+        w.s.r = 3;
+    if (c.op >= FOLD && w.s.k > 127)
+        w.s.k = 3 + below(125);
+    if (c.op >= FOLD) {
+        uint64_t most = 255 / w.s.k;
+        w.n = below(8) == 0 ? most : 2 + below(below(3) != 0 && most > 4 ? 3 : most - 1);
+        w.f = w.s.t != 0 ? w.s.t : 1 + below(3);
+    }
+    memcpy(c.num, (uint64_t[6]){w.s.k, w.s.r, w.s.t, w.s.l, w.n, w.f}, sizeof c.num);
+    if (holds(faults, 1))
+        spoil(1, 0, 3);
+    if (holds(faults, 2))
+        spoil(2, 3, 1);
+    if (holds(faults, 3))
+        spoil(3, 4, 1);
+    if (holds(faults, 4))
+        spoil(4, 5, 1);
+    if (below(60) == 0)
+        for (int i = 0; i < 6; i++)
+            c.num[i] = below(2) == 0 ? hostile(c.num[i]) : c.num[i];
+    return w;
+}
+
+/* x * y bytes where a buffer may have as many, else `otherwise`: so that wrong numbers mostly come with the lengths they ask for. */
+static uint64_t sized(uint64_t x, uint64_t y, uint64_t otherwise)
+{
+    return x < 4096 && y < 1 << 16 && x * y <= MOST_BYTES ? x * y : otherwise;
+}
+
+static uint64_t other_length(uint64_t len)
+{
+    switch (below(6)) {
+    case 0: return 0;
+    case 1: return len / 2;
+    case 2: return len - (len > 0);
+    case 3: return len * 2 <= MOST_BYTES ? len * 2 : 0;
+    case 4: return below(200);
+    default: return len + (len < MOST_BYTES);
+    }
+}
+
+static void spoil_a_length(void)
+{
+    uint64_t *len = below(2) == 0 ? &c.a_len : &c.b_len;
+    *len = other_length(*len);
+}
+
+/* What a refusal leaves: all as it was lent. */
+static void as_lent(void)
+{
+    memcpy(want_a, a, c.a_len);
+    memcpy(want_b, b, c.b_len);
+}
+
+/* Makes the call and compares. */
+static void compare(unsigned lines, uint64_t answer)
+{
+    uint32_t given = first_line(lines), next = first_line(lines & ~(1u << given));
+    uint64_t places = 0, first = 0;
+    covered[c.op].calls++;
+    covered[c.op].lines[given]++;
+    covered[c.op].pairs[given][next]++;
+    if (lines == 0)
+        shapes[c.num[1]][c.num[2]]++;
+    make_call(&c, a, b);
+    for (uint64_t i = c.a_len + c.b_len; i-- > 0;)
+        if (i < c.a_len ? a[i] != want_a[i] : b[i - c.a_len] != want_b[i - c.a_len]) {
+            places++;
+            first = i;
+        }
+    if (c.answer == answer && places == 0 && c.stray == 0)
+        return;
+    if (differences++ < 10)
+        printf("DIFFERENCE shelf_%s k=%" PRIu64 " r=%" PRIu64 " t=%" PRIu64 " L=%" PRIu64 " N=%" PRIu64 " f=%" PRIu64 ", %" PRIu64 " and %" PRIu64
+               " bytes lent: answer %" PRIu64 ", not %" PRIu64 "; %" PRIu64 " bytes differ, the first at %" PRIu64 "; %" PRIu64 " guard bytes changed\n",
+               ops[c.op].name, c.num[0], c.num[1], c.num[2], c.num[3], c.num[4], c.num[5], c.a_len, c.b_len, c.answer, answer, places, first, c.stray);
+}
+
+static void encode_case(unsigned faults)
+{
+    struct shape s = numbers(faults).s;
+    c.a_len = sized(c.num[0], c.num[3], s.k * s.l);
+    c.b_len = sized(c.num[1], c.num[3], s.r * s.l);
+    if (holds(faults, 5))
+        spoil_a_length();
+    fill(a, c.a_len);
+    fill(b, c.b_len);
+    as_lent();
+    unsigned lines = encode_lines(shape_of(), c.a_len, c.b_len);
+    if (lines == 0)
+        encode(shape_of(), a, want_b);
+    compare(lines, first_line(lines));
+}
+
+/* Up to r positions, in every split between data and parity; fewer than r for line 8, more for line 7; out of order for line 6. */
+static size_t lost_list(struct shape s, unsigned faults, uint16_t *lost)
+{
+    uint64_t n = s.k + s.r, most = holds(faults, 8) ? s.r - 1 : s.r, one = below(4) == 0 ? most : below(most + 1), two = below(most - one + 1);
+    size_t in_data = below(2) == 0 ? one : two, in_parity = one + two - in_data;
+    if (holds(faults, 7))
+        in_data = s.r + 1 - in_parity + below(4);
+    size_t count = any_lost(s, in_data, in_parity, lost);
+    if (!holds(faults, 6))
+        return count;
+    switch (count < 2 ? 2 + below(2) : below(4)) {
+    case 0: lost[below(count - 1)] = lost[count - 1]; return count;
+    case 1: lost[count - 1] = lost[below(count - 1)]; return count;
+    case 2: lost[count] = (uint16_t)(n + below(3) * below(3) * 128); return count + 1;
+    default:
+        for (count = 0; count <= n; count++)
+            lost[count] = (uint16_t)count;
+        return count;
+    }
+}
+
+static int among(uint64_t position, const uint16_t *lost, size_t count)
+{
+    while (count > 0 && lost[count - 1] != position)
+        count--;
+    return count > 0;
+}
+
+/* A codeword with rubbish in its lost columns, or any bytes where r are lost; for line 8 one survivor is stale. */
+static void stripe_to_mend(struct shape s, unsigned faults, const uint16_t *lost, size_t count)
+{
+    uint64_t size = (s.k + s.r) * s.l, at;
+    fill(a, c.a_len);
+    if (c.a_len != size || (count == s.r && below(4) == 0))
+        return;
+    encode(s, a, a + s.k * s.l);
+    for (uint64_t col = 0; col < s.k + s.r; col++)
+        if (among(col, lost, count))
+            fill(a + col * s.l, s.l);
+    if (holds(faults, 8) && count < s.k + s.r) {
+        do
+            at = below(size);
+        while (among(at / s.l, lost, count));
+        a[at] ^= (uint8_t)(1 + below(255));
+    }
+}
+
+static void mend_case(unsigned faults)
+{
+    struct shape s = numbers(faults).s;
+    uint16_t lost[MAX_LOST + 2];
+    size_t count = lost_list(s, faults, lost);
+    c.a_len = sized(c.num[0] + c.num[1], c.num[3], (s.k + s.r) * s.l);
+    c.b_len = 2 * count;
+    for (size_t i = 0; i < count; i++) {
+        b[2 * i] = (uint8_t)(lost[i] % 256);
+        b[2 * i + 1] = (uint8_t)(lost[i] / 256);
+    }
+    if (holds(faults, 5) && below(2) == 0)
+        b[c.b_len++] = (uint8_t)below(2);
+    else if (holds(faults, 5))
+        c.a_len = other_length(c.a_len);
+    stripe_to_mend(s, faults, lost, count);
+    as_lent();
+    unsigned lines = mend_lines(shape_of(), a, c.a_len, b, c.b_len);
+    if (lines == 0) {
+        size_t in_data = 0;
+        for (size_t i = 0; i < count; i++)
+            in_data += lost[i] < c.num[0];
+        lost_in[c.num[1]][in_data][count - in_data]++;
+        mend(shape_of(), want_a, lost, count);
+    }
+    compare(lines, first_line(lines));
+}
+
+/* What the plan names of N codewords, joined in a. The wide parity by definition goes to `wide`. */
+static void codewords_to_fold(struct fold w, uint8_t *wide)
+{
+    struct span spans[MAX_SPANS];
+    size_t columns = w.s.k * w.s.l, size = columns + w.s.r * w.s.l, count = plan(w, spans), at = 0;
+    uint8_t *stripes = malloc(w.n * size), *data = malloc(w.n * columns);
+    for (uint64_t l = 0; l < w.n; l++) {
+        fill(stripes + l * size, columns);
+        encode(w.s, stripes + l * size, stripes + l * size + columns);
+        memcpy(data + l * columns, stripes + l * size, columns);
+    }
+    for (size_t i = 0; i < count; i++) {
+        memcpy(a + at, stripes + spans[i].stripe * size + spans[i].position * w.s.l + spans[i].first, spans[i].length);
+        at += spans[i].length;
+    }
+    encode((struct shape){w.n * w.s.k, w.f, 0, w.s.l}, data, wide);
+    free(stripes);
+    free(data);
+}
+
+static void fold_case(unsigned faults)
+{
+    struct fold w = numbers(faults);
+    static uint8_t wide[3 * 4096];
+    c.a_len = plan_lines(fold_of()) == 0 ? bytes_read(fold_of()) : bytes_read(w);
+    c.b_len = sized(c.num[5], c.num[3], w.f * w.s.l);
+    if (holds(faults, 5))
+        spoil_a_length();
+    fill(a, c.a_len);
+    fill(b, c.b_len);
+    unsigned lines = fold_lines(fold_of(), c.a_len, c.b_len);
+    int codewords = lines == 0 && below(2) == 0;
+    if (codewords)
+        codewords_to_fold(fold_of(), wide);
+    as_lent();
+    if (lines == 0) {
+        kinds[kind(fold_of()) - 'A']++;
+        fold(fold_of(), a, want_b);
+        if (codewords && memcmp(wide, want_b, c.b_len) != 0) {
+            differences++;
+            printf("DIFFERENCE inside the second program: a fold of codewords is not the parity of all data\n");
+        }
+    }
+    compare(lines, first_line(lines));
+}
+
+static void plan_case(unsigned faults)
+{
+    struct span spans[MAX_SPANS];
+    numbers(faults);
+    c.a_len = c.b_len = 0;
+    unsigned lines = plan_lines(fold_of());
+    uint64_t refused = first_line(lines), columns = lines == 0 ? plan(fold_of(), spans) : 0, bytes = lines == 0 ? bytes_read(fold_of()) : 0;
+    compare(lines, c.op == PLAN_REFUSAL ? refused : c.op == PLAN_COLUMNS ? columns : bytes);
+}
+
+static void spans_case(unsigned faults)
+{
+    struct span spans[MAX_SPANS];
+    struct fold w = numbers(faults);
+    size_t count = plan(plan_lines(fold_of()) == 0 ? fold_of() : w, spans), room = count + below(3) * below(3);
+    if (holds(faults, 5))
+        room = below(2) == 0 ? 0 : below(count);
+    c.a_shift &= ~(uint64_t)3;                                 /* a span's alignment */
+    c.a_len = room * sizeof *spans;
+    c.b_len = 0;
+    fill(a, c.a_len);
+    as_lent();
+    unsigned lines = spans_lines(fold_of(), room);
+    if (lines == 0)
+        memcpy(want_a, spans, count * sizeof *spans);
+    compare(lines, first_line(lines));
+}
+
+/* ---- all cases ---- */
+
+/* None, or a line that the call can give, or two lines that are neighbours in the order. */
+static unsigned any_faults(unsigned lines)
+{
+    unsigned number;
+    if (below(100) >= 44)
+        return 0;
+    do
+        number = (unsigned)below(LINES);
+    while (!holds(lines, number));
+    unsigned faults = 1u << number, rest = lines & ~((2u << number) - 1);
+    return below(5) < 3 && rest != 0 ? faults | 1u << first_line(rest) : faults;
+}
+
+static void one_case(void)
+{
+    uint64_t all = 0, turn;
+    for (int op = 0; op < OPS; op++)
+        all += ops[op].often;
+    turn = below(all);
+    for (c.op = 0; turn >= ops[c.op].often; c.op++)
+        turn -= ops[c.op].often;
+    c.a_shift = below(64);
+    c.b_shift = below(64);
+    unsigned faults = any_faults(ops[c.op].lines);
+    switch (c.op) {
+    case ENCODE: encode_case(faults); break;
+    case MEND: mend_case(faults); break;
+    case FOLD: fold_case(faults); break;
+    case PLAN_SPANS: spans_case(faults); break;
+    default: plan_case(faults);
+    }
+}
+
+/* ---- the table ---- */
+
+static uint64_t calls, missing;
+
+/* A count of the table, marked where it is below its floor. Floors are for 100,000 calls; with fewer they are half of their share. */
+static void show(const char *what, uint64_t count, uint64_t least)
+{
+    least = calls < 100000 ? least * calls / 200000 : least;
+    printf("  %s %" PRIu64 "%s", what, count, count < least ? " (TOO FEW)" : "");
+    missing += count < least;
+}
+
+static void table(void)
+{
+    unsigned possible = 0;
+    uint64_t accepted = 0, given[LINES] = {0}, pairs[LINES][LINES] = {{0}}, in_data[4] = {0}, in_parity[4] = {0};
+    char what[32];
+    printf("%-18s %9s %9s", "call", "calls", "accepted");
+    for (int n = 1; n < LINES; n++)
+        printf("%8s%d", "ref. ", n);
+    for (int op = 0; op < OPS; op++) {
+        if (ops[op].often == 0)
+            continue;
+        possible |= ops[op].lines;
+        accepted += covered[op].lines[0];
+        printf("\n%-18s %9" PRIu64 " %9" PRIu64, ops[op].name, covered[op].calls, covered[op].lines[0]);
+        for (int n = 1; n < LINES; n++) {
+            printf("%9" PRIu64, covered[op].lines[n]);
+            given[n] += covered[op].lines[n];
+            for (int m = n + 1; m < LINES; m++)
+                pairs[n][m] += covered[op].pairs[n][m];
+        }
+    }
+    printf("\naccepted:");
+    show("", accepted, 50000);
+    printf("\nrefusals given:");
+    for (int n = 1; n < LINES; n++)
+        if (holds(possible, (unsigned)n))
+            show((sprintf(what, "%d:", n), what), given[n], 1000);
+    printf("\nneighbours that both hold, the first given:");
+    for (int n = 1; n < LINES; n++)
+        for (int m = n + 1; m < LINES; m++) {
+            int neighbours = 0;
+            for (int op = 0; op < OPS; op++)
+                neighbours |= holds(ops[op].lines, (unsigned)n) && holds(ops[op].lines, (unsigned)m) && (ops[op].lines >> (n + 1) & ((1u << (m - n - 1)) - 1)) == 0;
+            if (neighbours && n != 7)                          /* with more than r lost some codeword always agrees */
+                show((sprintf(what, "%d,%d:", n, m), what), pairs[n][m], 1000);
+        }
+    printf("\naccepted (r,t):");
+    for (int r = 1; r < 4; r++)
+        for (int t = 0; t < 4; t++)
+            if (t == 0 || t > r)
+                show((sprintf(what, "(%d,%d):", r, t), what), shapes[r][t], 1000);
+    if (ops[FOLD].often != 0) {
+        printf("\nfolds of kind");
+        for (int n = 0; n < 3; n++)
+            show((sprintf(what, "%c:", 'A' + n), what), kinds[n], 1000);
+    }
+    if (ops[MEND].often != 0) {
+        printf("\nmended, r: lost in data + in parity:");
+        for (int r = 1; r < 4; r++)
+            for (int d = 0; d <= r; d++)
+                for (int p = 0; p + d <= r; p++) {
+                    show((sprintf(what, "%d:%d+%d:", r, d, p), what), lost_in[r][d][p], 100);
+                    in_data[d] += lost_in[r][d][p];
+                    in_parity[p] += lost_in[r][d][p];
+                }
+        printf("\nlost in data:");
+        for (int n = 0; n < 4; n++)
+            show((sprintf(what, "%d:", n), what), in_data[n], 1000);
+        printf("\nlost in parity:");
+        for (int n = 0; n < 4; n++)
+            show((sprintf(what, "%d:", n), what), in_parity[n], 1000);
+    }
+    printf("\n");
+#ifdef SHELF_HAS_PROGRAM
+    printf("records through the program:");
+    for (int n = 0; n < 11; n++)
+        if (n != 3 && n != 4)
+            show(n == 0 ? "mended:" : (sprintf(what, "%d:", n), what), record_answers[n], n > 8 ? 1000 : 50);
+    printf("\n");
+#endif
+}
+
+int main(int argc, char **argv)
+{
+    uint64_t from = argc > 2 ? strtoull(argv[2], NULL, 0) : 1;
+    calls = argc > 1 ? strtoull(argv[1], NULL, 0) : 100000;
+    seed(from);
+    setvbuf(stdout, NULL, _IOLBF, 0);                          /* a call that does not come back leaves the lines before it */
+    differences = (uint64_t)worked();
+    for (uint64_t i = 0; i < calls; i++)
+        one_case();
+#ifdef SHELF_HAS_PROGRAM
+    differences += compare_records(calls / 20);
+#endif
+    table();
+    printf("second: %" PRIu64 " calls, seed %" PRIu64 ": %" PRIu64 " differences, %" PRIu64 " counts too low: %s\n", calls, from, differences, missing,
+           differences + missing == 0 ? "AGREED" : "FAILED");
+    return differences + missing != 0;
+}

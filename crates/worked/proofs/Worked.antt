@@ -1,8 +1,103 @@
--- All starred examples hold: each side is computed from the definitions.
-use mathlib.Core.Path.{refl}
-use Rattle.field.specs.Field.{_⊕_, _⊗_, doubled, shifted, power, gpow}
-use Rattle.worked.specs.Worked.{Holds, AllHold, worked}
+-- All starred examples hold: most by computing both sides from the definitions; that no codeword agrees with the stale stripe's
+-- survivors, since the only stripe that could, the mended one, has another last byte.
+use mathlib.Core.Path.{_≡_, refl}
+use mathlib.Core.Bool.{Bool, true, false, _&&_}
+use mathlib.Core.List.{List, [], _∷_}
+use Prim.Native.Nat.{ℕ, zero, suc, _≤_, _<_}
+use native.Mathlib.Omega.{arith}
+use lib.Dec.{T, ltb, ltb→lt, lit<, lit≤}
+use lib.ListN.{getD}
+use Rattle.field.specs.Field.{_⊕_, _⊗_, doubled, shifted, power, gpow, inverseOf}
+use Rattle.field.specs.Bytes.{Bytes, tabulate}
+use Rattle.field.specs.Row.{row, rowFrom}
+use Rattle.field.specs.Solve.{moment, apart, cleared, solve}
+use Rattle.stripe.specs.Shape.{shapeRefusal}
+use Rattle.stripe.specs.Stripe.{across, rowAt, runLength, piggyback, parityByte, parity, among, Ascending, Codeword, Agree}
+use Rattle.stripe.proofs.Survivors.{countTrue, firstRow, rowStep}
+use Rattle.stripe.proofs.Lost.{lostData}
+use Rattle.stripe.proofs.Errors.{points, errors, mended, patched}
+use Rattle.stripe.proofs.Word.{wordErrors, wordMended}
+use Rattle.stripe.proofs.Mended.{wordBelow, wanted, wordAt, dataMended, stripeMended}
+use Rattle.stripe.proofs.Determined.{mendable}
+use Rattle.stripe.proofs.Completed.{completed}
+use Rattle.fold.specs.Plan.{foldRefusal, kindOf, columnSpans, kindSpans, spansFrom, plan, columnsEach, bytesEach, columnsRead, bytesRead}
+use Rattle.fold.specs.Fold.{readParity, readRow, runShare, share, foldByte, foldStripes, parts, foldOf, named, cutOut}
+use Rattle.record.specs.Number.{groups, groupsAt}
+use Rattle.record.specs.Reading.{firstOf, headRefusal, contentRefusal, positionsRefusal, afterPositions, stripeRefusal, readRefusal}
+use Rattle.worked.specs.Worked.{shape, pair, preparedPair, stale, Case, Holds, AllHold, worked}
+
+small : List ℕ → Bool
+small [] = true
+small (x ∷ xs) = ltb x 256 && small xs
+
+both : (a b : Bool) → T (a && b) → T a × T b
+both true b t = (tt, t)
+both false b t = absurd t
+
+bytes : (xs : List ℕ) → T (small xs) → Bytes xs
+unfolding small
+bytes [] t i = lit< tt
+bytes (x ∷ xs) t zero = ltb→lt x 256 (both (ltb x 256) (small xs) t .0)
+bytes (x ∷ xs) t (suc i) = bytes xs (both (ltb x 256) (small xs) t .1) i
+
+stale-bytes : Bytes stale
+unfolding small
+stale-bytes = bytes stale tt
+
+lost-one : Ascending 0 6 (0 ∷ [])
+unfolding Ascending
+lost-one = (lit≤ tt, lit< tt, tt)
+
+lost-two : Ascending 0 6 (0 ∷ 3 ∷ [])
+unfolding Ascending
+lost-two = (lit≤ tt, lit< tt, (lit≤ tt, lit< tt, tt))
+
+shape-allowed : shapeRefusal (shape 4 2 0 1) ≡ 0
+unfolding shapeRefusal
+shape-allowed = refl
+
+-- what the stale stripe would be mended to, its first column lost
+stale-mended : getD (stripeMended (shape 4 2 0 1) (0 ∷ []) stale) 5 0 ≡ 0x25
+unfolding stripeMended dataMended wordAt wanted wordBelow wordMended wordErrors errors mended patched points lostData countTrue firstRow rowStep
+    solve moment apart cleared inverseOf across rowAt runLength piggyback parityByte parity among tabulate row rowFrom gpow power _⊗_ shifted doubled _⊕_
+stale-mended = refl
+
+stale-disagrees : (ys : List ℕ) → Codeword (shape 4 2 0 1) ys → Agree (shape 4 2 0 1) (0 ∷ []) stale ys → ⊥
+unfolding among
+stale-disagrees ys u v =
+    let agree = mendable (shape 4 2 0 1) shape-allowed (0 ∷ []) lost-one (lit≤ tt) stale stale-bytes .0 (ys, (u, v)) in
+    let e : 0x29 ≡ getD (stripeMended (shape 4 2 0 1) (0 ∷ []) stale) 5 0 = agree 5 0 (lit< tt) (lit< tt) refl in
+    omega (arith, e, stale-mended)
+
+stale-mends : (ys : List ℕ) × (Codeword (shape 4 2 0 1) ys × Agree (shape 4 2 0 1) (0 ∷ 3 ∷ []) stale ys)
+stale-mends = completed (shape 4 2 0 1) shape-allowed (0 ∷ 3 ∷ []) lost-two refl stale stale-bytes refl
 
 pub worked-hold : AllHold worked
-unfolding worked AllHold Holds _⊗_ shifted doubled _⊕_ gpow power
-worked-hold = (refl, (refl, tt))
+unfolding worked AllHold Holds _⊗_ shifted doubled _⊕_ gpow power parity parityByte piggyback runLength rowAt across tabulate row rowFrom groups
+    groupsAt firstOf headRefusal contentRefusal positionsRefusal afterPositions stripeRefusal readRefusal shapeRefusal foldRefusal kindOf columnSpans
+    kindSpans spansFrom plan columnsEach bytesEach columnsRead bytesRead readParity readRow runShare share foldByte foldStripes parts foldOf named cutOut
+worked-hold = (
+  refl,
+  (
+    refl,
+    (
+      refl,
+      (
+        refl,
+        (
+          refl,
+          (
+            refl,
+            (
+              (refl, refl, refl),
+              (
+                (refl, refl, refl),
+                ((refl, refl, refl), (stale-disagrees, (stale-mends, (refl, (refl, (refl, tt)))))),
+              ),
+            ),
+          ),
+        ),
+      ),
+    ),
+  ),
+)

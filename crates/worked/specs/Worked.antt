@@ -2,21 +2,79 @@
 use mathlib.Core.Path.{_≡_}
 use mathlib.Core.List.{List, [], _∷_}
 use Prim.Native.Nat.{ℕ}
+use lib.ListN.{length}
 use Rattle.field.specs.Field.{_⊗_, gpow}
+use Rattle.stripe.specs.declared.Shape.{Shape}
+use Rattle.stripe.specs.Stripe.{parity, Codeword, Agree}
+use Rattle.fold.specs.Plan.{plan, columnsRead, bytesRead}
+use Rattle.fold.specs.Fold.{foldOf, cutOut}
+use Rattle.record.specs.Number.{written}
+use Rattle.record.specs.Reading.{readRefusal}
+
+-- the shape of four numbers
+abbrev pub shape : ℕ → ℕ → ℕ → ℕ → Shape
+shape k r t l = record { k = k; r = r; t = t; l = l }
 
 pub data Case : Type 0 where
   -- a times b is c
   Product : ℕ → ℕ → ℕ → Case
   -- g^n is c
   Power : ℕ → ℕ → Case
+  -- the data of a stripe, columns in order, and its parity
+  Parity : Shape → List ℕ → List ℕ → Case
+  -- whole stripes folded to f parity columns, the wide parity, and how many bytes and columns the plan reads
+  Fold : Shape → ℕ → List (List ℕ) → List ℕ → ℕ → ℕ → Case
+  -- a stripe with these positions lost: some codeword agrees with all survivors
+  Mends : Shape → List ℕ → List ℕ → Case
+  -- and none does
+  Disagrees : Shape → List ℕ → List ℕ → Case
+  -- a number of a record, and its bytes
+  Written : ℕ → List ℕ → Case
+  -- the bytes of a record, and their refusal by reading
+  Read : List ℕ → ℕ → Case
 
 unfoldable pub Holds : Case → Type 0
 Holds (Product a b c) = a ⊗ b ≡ c
 Holds (Power n c) = gpow n ≡ c
+Holds (Parity s ds ps) = parity s ds ≡ ps
+Holds (Fold s f zss ps b c) =
+    (foldOf s (length zss) f (cutOut s zss (plan s (length zss) f)) ≡ ps)
+    × (bytesRead s (length zss) f ≡ b)
+    × (columnsRead s (length zss) f ≡ c)
+Holds (Mends s es xs) = (ys : List ℕ) × (Codeword s ys × Agree s es xs ys)
+Holds (Disagrees s es xs) = (ys : List ℕ) → Codeword s ys → Agree s es xs ys → ⊥
+Holds (Written n xs) = written n ≡ xs
+Holds (Read xs v) = readRefusal xs 65536 258 ≡ v
 
 unfoldable pub AllHold : List Case → Type 0
 AllHold [] = Unit {0}
 AllHold (c ∷ cs) = Holds c × AllHold cs
 
+-- the two plain stripes, whole, and the two prepared ones
+abbrev pub pair : List (List ℕ)
+pair = (0x01 ∷ 0x02 ∷ 0x03 ∷ 0x05 ∷ 0x09 ∷ []) ∷ (0x03 ∷ 0x04 ∷ 0x07 ∷ 0x0B ∷ 0x13 ∷ []) ∷ []
+
+abbrev pub preparedPair : List (List ℕ)
+preparedPair = (0x01 ∷ 0x03 ∷ 0x02 ∷ 0x04 ∷ 0x03 ∷ 0x02 ∷ []) ∷ (0x05 ∷ 0x07 ∷ 0x06 ∷ 0x08 ∷ 0x03 ∷ 0x06 ∷ []) ∷ []
+
+-- a stripe with a stale column 1
+abbrev pub stale : List ℕ
+stale = 0x05 ∷ 0x06 ∷ 0x03 ∷ 0x04 ∷ 0x04 ∷ 0x29 ∷ []
+
 unfoldable pub worked : List Case
-worked = Product 0x02 0x80 0x1D ∷ Power 255 0x01 ∷ []
+worked =
+    Product 0x02 0x80 0x1D
+    ∷ Power 255 0x01
+    ∷ Parity (shape 2 3 0 1) (0x01 ∷ 0x02 ∷ []) (0x03 ∷ 0x05 ∷ 0x09 ∷ [])
+    ∷ Parity (shape 2 3 0 1) (0x03 ∷ 0x04 ∷ []) (0x07 ∷ 0x0B ∷ 0x13 ∷ [])
+    ∷ Parity (shape 2 1 2 2) (0x01 ∷ 0x03 ∷ 0x02 ∷ 0x04 ∷ []) (0x03 ∷ 0x02 ∷ [])
+    ∷ Parity (shape 2 1 2 2) (0x05 ∷ 0x07 ∷ 0x06 ∷ 0x08 ∷ []) (0x03 ∷ 0x06 ∷ [])
+    ∷ Fold (shape 2 3 0 1) 2 pair (0x04 ∷ 0x29 ∷ []) 4 4
+    ∷ Fold (shape 2 3 0 1) 3 pair (0x04 ∷ 0x29 ∷ 0x24 ∷ []) 4 4
+    ∷ Fold (shape 2 1 2 2) 2 preparedPair (0x00 ∷ 0x08 ∷ 0x21 ∷ 0x57 ∷ []) 8 6
+    ∷ Disagrees (shape 4 2 0 1) (0 ∷ []) stale
+    ∷ Mends (shape 4 2 0 1) (0 ∷ 3 ∷ []) stale
+    ∷ Written 300 (0xAC ∷ 0x02 ∷ [])
+    ∷ Read (0x80 ∷ 0x00 ∷ []) 9
+    ∷ Read [] 9
+    ∷ []

@@ -10,7 +10,7 @@ use native.Mathlib.Numerals.{add-one}
 use lib.Dec.{eqb}
 use borrow.Author.Tests.{eq-eqb, ne-eqb}
 use lib.ListN.{length, getD, set, take, drop, length-set, drop-of-length-le}
-use lib.Seq.{getD-drop, drop-drop, getD-set-same, getD-set-other}
+use lib.Seq.{getD-take, getD-drop, drop-drop, getD-set-same, getD-set-other}
 use Rattle.field.specs.Field.{_⊕_, doubled, shifted, _⊗_, power, gpow}
 use Rattle.field.specs.Bytes.{Bytes}
 use Rattle.field.specs.Row.{row}
@@ -266,13 +266,50 @@ pub record Folded (w : ℕ) (v : List ℕ → ℕ → ℕ) (m n : ℕ) (d xs ys 
   pub long : length ys ≡ length xs
   pub at : (e : ℕ) → e < length xs → getD ys e 0 ≡ row w (map (λ zs. v zs e) (drop l (parts m n d)))
 
-pub fold-start : (w : ℕ) (v : List ℕ → ℕ → ℕ) (m n : ℕ) (d xs ys : List ℕ) → Holds (λ (e : ℕ). 0) xs ys → Folded w v m n d xs ys n
-fold-start w v m n d xs ys h =
+abbrev summed-from : ℕ → Share → ℕ → ℕ → ℕ → ℕ → List ℕ → ℕ → ℕ → ℕ
+summed-from w σ k c m n d l e = row w (map (λ us. shareAt σ k c us e) (drop l (parts m n d)))
+
+-- no stripe
+pub none-summed : (w : ℕ) (σ : Share) (k c m n : ℕ) (d : List ℕ) (l e : ℕ) → n ≤ l → summed-from w σ k c m n d l e ≡ 0
+none-summed w σ k c m n d l e h =
+    ap (λ (yss : List (List ℕ)). row w (map (λ us. shareAt σ k c us e) yss)) (drop-of-length-le (parts m n d) {i = l} (omega (arith, parts-count m n d))) ∙ row-nil w
+
+pub start-none : (w : ℕ) (σ : Share) (k c m n : ℕ) (d xs ys : List ℕ) → Holds (λ (e : ℕ). 0) xs ys
+    → Holds (summed-from w σ k c m n d n) xs ys
+start-none w σ k c m n d xs ys h = record { long = h .long; at = λ e l. h .at e l ∙ sym (none-summed w σ k c m n d n e (omega arith)) }
+
+-- the last stripe alone
+pub start-last : (w at k c m n : ℕ) (d xs zs : List ℕ) (l q : ℕ) → Bytes d → l + 1 ≡ n → l * m + m ≤ length d → length xs ≡ q → at + q ≤ m
+    → zs ≡ onto (λ (x y : ℕ). y) xs (take (l * m + at + q - (l * m + at)) (drop (l * m + at) d))
+    → Holds (summed-from w (Stored at) k c m n d l) xs zs
+unfolding shareAt
+start-last w at k c m n d xs zs l q b more whole long inside is =
     record {
-      long = h .long;
-      at = λ e l. h .at e l
-          ∙ sym (ap (λ (yss : List (List ℕ)). row w (map (λ zs. v zs e) yss)) (drop-of-length-le (parts m n d) {i = n} (omega (arith, parts-count m n d))) ∙ row-nil w);
+      long = ap length is ∙ onto-length (λ (x y : ℕ). y) xs _;
+      at = λ e h. ap (λ (v : List ℕ). getD v e 0) is
+          ∙ onto-at (λ (x y : ℕ). y) xs (take (l * m + at + q - (l * m + at)) (drop (l * m + at) d)) e h (omega (arith, part-length d (l * m + at) q within))
+          ∙ part-at d (l * m + at) q e (omega arith) ∙ sym (one e h);
     }
+  where
+    within : l * m + at + q ≤ length d
+    within = omega arith
+
+    one : (e : ℕ) → e < length xs → row w (map (λ us. getD us (at + e) 0) (drop l (parts m n d))) ≡ getD d (l * m + at + e) 0
+    one e h =
+        ap (λ (yss : List (List ℕ)). row w (map (λ us. getD us (at + e) 0) yss)) (part-is m n d l (omega arith))
+        ∙ row-cons w (getD (take m (drop (l * m) d)) (at + e) 0) _ (bytes-take m _ (bytes-drop (l * m) d b) (at + e))
+        ∙ ap (λ (u : ℕ). getD (take m (drop (l * m) d)) (at + e) 0 ⊕ gpow w ⊗ u) (none-summed w (Stored at) k c m n d (suc l) e (omega arith))
+        ∙ ap (λ (u : ℕ). getD (take m (drop (l * m) d)) (at + e) 0 ⊕ u) (mul-zero (gpow w)) ∙ add-zero _
+        ∙ getD-take m (drop (l * m) d) (at + e) 0 (omega arith) ∙ getD-drop (l * m) d (at + e) 0
+        ∙ ap (λ (u : ℕ). getD d u 0) (sym (place l m at e))
+
+pub start-by : (σ τ : Share) (w k c m n : ℕ) (d xs ys : List ℕ) (l : ℕ) → σ ≡ τ
+    → Holds (summed-from w τ k c m n d l) xs ys → Holds (summed-from w σ k c m n d l) xs ys
+start-by σ τ w k c m n d xs ys l e h = subst (λ (ρ : Share). Holds (summed-from w ρ k c m n d l) xs ys) (sym e) h
+
+pub fold-start : (w : ℕ) (v : List ℕ → ℕ → ℕ) (m n : ℕ) (d xs ys : List ℕ) (l : ℕ)
+    → Holds (λ (e : ℕ). row w (map (λ zs. v zs e) (drop l (parts m n d)))) xs ys → Folded w v m n d xs ys l
+fold-start w v m n d xs ys l h = record { long = h .long; at = h .at }
 
 pub fold-turn : (w : ℕ) (σ : Share) (k c m n : ℕ) (d xs ys zs : List ℕ) (l : ℕ) → Bytes d → l + 1 ≤ n
     → Folded w (shareAt σ k c) m n d xs ys (l + 1)

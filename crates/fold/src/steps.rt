@@ -3,7 +3,7 @@
 ghost use mathlib.Core.Path.{_≡_};
 ghost use mathlib.Core.List.{map};
 ghost use Prim.Native.Nat.{ℕ, _+_, _*_, _<_, _≤_};
-ghost use lib.ListN.{length};
+ghost use lib.ListN.{length, drop};
 ghost use Rattle.field.specs.Field.{_⊕_, _⊗_, gpow};
 ghost use Rattle.field.specs.Row.{row};
 ghost use Rattle.lanes.specs.Lanes.{onto};
@@ -118,6 +118,33 @@ fn clear(acc: &mut [u8])
     }
 }
 
+// The run as the sum over the last stripes: of bytes as they lie the last stripe's, else over none; and how many stripes are left.
+fn start_run(
+    acc: &mut [u8],
+    w: usize,
+    k: usize,
+    m: usize,
+    share: Share,
+    n: usize,
+    each: usize,
+    d: &[u8],
+) -> usize
+    requires { ⌜ (length (now d) ≡ n * each) × Within share k m (length (now acc)) each w ⌝ }
+    ensures { λ v. ⌜ (v ≤ n) × Holds (λ (e : ℕ). row w (map (λ xs. shareAt share k m xs e) (drop v (parts each n (now (d .entry)))))) (now (acc .entry)) (now (acc .exit)) ⌝ }
+{
+    let q = acc.len();
+    if let Share::Stored(at) = share {
+        if 0 < n {
+            let a = (n - 1) * each + at;
+            let b = a + q;
+            lanes::copy(acc, &d[a..b]);
+            return n - 1;
+        }
+    }
+    clear(acc);
+    n
+}
+
 // The run as the sum over n stripes, of which `each` bytes are read, of the powers of g^w times the shares.
 pub(crate) fn fill_run(
     acc: &mut [u8],
@@ -132,8 +159,7 @@ pub(crate) fn fill_run(
     requires { ⌜ (1 ≤ k) × ((length (now d) ≡ n * each) × Within share k m (length (now acc)) each w) ⌝ }
     ensures { λ _. ⌜ Holds (λ (e : ℕ). row w (map (λ xs. shareAt share k m xs e) (parts each n (now (d .entry))))) (now (acc .entry)) (now (acc .exit)) ⌝ }
 {
-    clear(acc);
-    let mut l = n;
+    let mut l = start_run(acc, w, k, m, share, n, each, d);
     while 0 < l {
         l -= 1;
         let a = l * each;

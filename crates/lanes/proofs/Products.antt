@@ -22,24 +22,26 @@ pub twice : (x : ℕ) → x < 256 → bitXor (x % 128 * 2) (x / 128 * 29) ≡ 2 
 unfolding twice-ok _⊗_ shifted doubled _⊕_
 twice x h = eqb→eq (bitXor (x % 128 * 2) (x / 128 * 29)) (2 ⊗ x) (below twice-ok 256 tt x h)
 
--- eight times, by the bits that come back
-back : ℕ → ℕ → ℕ
-back s t = bitXor (bitXor (bitXor (bitXor s t) (t * 4)) (t * 8)) (t * 16)
+-- eight and sixteen times: the highest bits come back times x^4 + x^3 + x^2 + 1
+eight : ℕ → ℕ
+eight x = bitXor (bitXor (bitXor (bitXor x (x / 32) % 32 * 8) (x / 32)) (x / 32 * 4)) (x / 32 * 16)
 
 eight-ok : ℕ → Bool
-eight-ok x = eqb (back (x % 32 * 8) (x / 32)) (8 ⊗ x)
+eight-ok x = eqb (eight x) (8 ⊗ x)
 
-pub eight-times : (x : ℕ) → x < 256 → bitXor (bitXor (bitXor (bitXor (x % 32 * 8) (x / 32)) (x / 32 * 4)) (x / 32 * 8)) (x / 32 * 16) ≡ 8 ⊗ x
-unfolding back eight-ok _⊗_ shifted doubled _⊕_
-eight-times x h = eqb→eq (back (x % 32 * 8) (x / 32)) (8 ⊗ x) (below eight-ok 256 tt x h)
+pub eight-times : (x : ℕ) → x < 256 → bitXor (bitXor (bitXor (bitXor x (x / 32) % 32 * 8) (x / 32)) (x / 32 * 4)) (x / 32 * 16) ≡ 8 ⊗ x
+unfolding eight eight-ok _⊗_ shifted doubled _⊕_
+eight-times x h = eqb→eq (eight x) (8 ⊗ x) (below eight-ok 256 tt x h)
 
--- sixteen times
+sixteen : ℕ → ℕ
+sixteen x = bitXor (bitXor (bitXor (bitXor x (x / 16) % 16 * 16) (x / 16)) (x / 16 * 4)) (x / 16 * 8)
+
 sixteen-ok : ℕ → Bool
-sixteen-ok x = eqb (back (x % 16 * 16) (x / 16)) (16 ⊗ x)
+sixteen-ok x = eqb (sixteen x) (16 ⊗ x)
 
-pub sixteen-times : (x : ℕ) → x < 256 → bitXor (bitXor (bitXor (bitXor (x % 16 * 16) (x / 16)) (x / 16 * 4)) (x / 16 * 8)) (x / 16 * 16) ≡ 16 ⊗ x
-unfolding back sixteen-ok _⊗_ shifted doubled _⊕_
-sixteen-times x h = eqb→eq (back (x % 16 * 16) (x / 16)) (16 ⊗ x) (below sixteen-ok 256 tt x h)
+pub sixteen-times : (x : ℕ) → x < 256 → bitXor (bitXor (bitXor (bitXor x (x / 16) % 16 * 16) (x / 16)) (x / 16 * 4)) (x / 16 * 8) ≡ 16 ⊗ x
+unfolding sixteen sixteen-ok _⊗_ shifted doubled _⊕_
+sixteen-times x h = eqb→eq (sixteen x) (16 ⊗ x) (below sixteen-ok 256 tt x h)
 
 two-two : 2 ⊗ 2 ≡ 4
 unfolding _⊗_ shifted doubled _⊕_

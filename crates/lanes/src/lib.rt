@@ -167,7 +167,7 @@ fn eightfold(x: u8) -> u8
     ensures { λ v. ⌜ v ≡ 8 ⊗ x ⌝ }
 {
     let t = x / 32;
-    ((x % 32) * 8) ^ t ^ (t * 4) ^ (t * 8) ^ (t * 16)
+    (((x ^ t) % 32) * 8) ^ t ^ (t * 4) ^ (t * 16)
 }
 
 // Sixteen times x: the four highest bits come back times x^4 + x^3 + x^2 + 1, and none of them wraps.
@@ -175,7 +175,7 @@ fn sixteenfold(x: u8) -> u8
     ensures { λ v. ⌜ v ≡ 16 ⊗ x ⌝ }
 {
     let t = x / 16;
-    ((x % 16) * 16) ^ t ^ (t * 4) ^ (t * 8) ^ (t * 16)
+    (((x ^ t) % 16) * 16) ^ t ^ (t * 4) ^ (t * 8)
 }
 
 // A byte times each power of two, by which a product is eight masks.

@@ -13,11 +13,8 @@ mul-result-2 c = search needs
 mul-result-3 : tie.Need-mul-result-3
 mul-result-3 c = search needs
 
-mul-result-4 : tie.Need-mul-result-4
-mul-result-4 c = search needs
-
 returns : tie.Need-returns
 returns c = sixteen-times (c .args .x) (c .fits .x .fits)
 
 pub sixteenfold-spec : {M : Type 1} → statement M
-sixteenfold-spec = tie.close (tie.spec mul-result mul-result-2 mul-result-3 mul-result-4 returns)
+sixteenfold-spec = tie.close (tie.spec mul-result mul-result-2 mul-result-3 returns)

@@ -18,11 +18,11 @@ Inv-loop acc₀ w k m share n each d l₀ acc l = (l ≤ n) × Folded w (shareAt
 abbrev μ-loop : tie.MeasureT-loop
 μ-loop acc₀ w k m share n each d l₀ acc l = l
 
-clear-requires : tie.Need-clear-requires Inv-loop μ-loop
-clear-requires c κs = search needs
+start-run-requires : tie.Need-start-run-requires Inv-loop μ-loop
+start-run-requires c κs = search needs
 
 loop-holds : tie.Need-loop-holds Inv-loop μ-loop
-loop-holds c = (search needs, fold-start _ _ _ _ _ _ _ (holds-self _ _ _ (c .before .before .clear .ensures)))
+loop-holds c = (c .before .before .start-run .ensures .0, fold-start _ _ _ _ _ _ _ _ (holds-self _ _ _ (c .before .before .start-run .ensures .1)))
 
 sub-l : tie.Need-sub-l Inv-loop μ-loop
 sub-l c = search needs
@@ -73,7 +73,7 @@ add-share-requires c κs =
     let z = c .before .before .before .before .before .before .before .before .before .before in
     let h : l .l - 1 < z .args .n = let p = l .inv .0 in let t = c .before .before .loop-test .taken in omega arith in
     let w = stripe-fits (z .args .n) (z .args .each) (length (now (z .args .d))) (l .l - 1) h (z .pre .1 .0) in
-    (z .pre .0, within-by _ _ _ _ _ _ _ _ (l .inv .1 .long ∙ c .before .before .before .before .before .before .clear .ensures .long) (part-length (now (z .args .d)) ((l .l - 1) * z .args .each) (z .args .each) w) (z .pre .1 .1))
+    (z .pre .0, within-by _ _ _ _ _ _ _ _ (l .inv .1 .long ∙ c .before .before .before .before .before .before .start-run .ensures .1 .long) (part-length (now (z .args .d)) ((l .l - 1) * z .args .each) (z .args .each) w) (z .pre .1 .1))
 
 loop-less : tie.Need-loop-less Inv-loop μ-loop
 loop-less c = search needs
@@ -87,14 +87,14 @@ loop-again c =
     let t = c .before .before .before .before .before .loop-test .taken in
     let p = l .inv .0 in
     let e : l .l ≡ l .l - 1 + 1 = omega arith in
-    let r = subst (λ (x : ℕ). Folded (z .args .w) (shareAt (z .args .share) (z .args .k) (z .args .m)) (z .args .each) (z .args .n) (now (z .args .d)) (c .before .before .before .before .before .before .before .before .before .clear .last .0) (l .acc) x) e (l .inv .1) in
+    let r = subst (λ (x : ℕ). Folded (z .args .w) (shareAt (z .args .share) (z .args .k) (z .args .m)) (z .args .each) (z .args .n) (now (z .args .d)) (c .before .before .before .before .before .before .before .before .before .start-run .last .0) (l .acc) x) e (l .inv .1) in
     (omega arith, fold-turn _ _ _ _ _ _ _ _ (l .acc) _ (l .l - 1) (λ i. c .before .before .before .before .before .before .before .before .before .before .before .shared-slice-known .given i .fits) (omega arith) r (c .before .before .add-share .ensures))
 
 same-length : tie.Need-same-length Inv-loop μ-loop
 same-length c = search needs
 
 returns : tie.Need-returns Inv-loop μ-loop
-returns c = holds-by _ _ _ _ _ (c .before .before .before .before .clear .ensures) (fold-done _ _ _ _ _ _ _ _ (c .loop-test .left) (c .before .loop .inv .1))
+returns c = holds-by _ _ _ _ _ (c .before .before .before .before .start-run .ensures .1) (fold-done _ _ _ _ _ _ _ _ (c .loop-test .left) (c .before .loop .inv .1))
 
 pub fill-run-spec : {M : Type 1} → statement M
 fill-run-spec =
@@ -102,7 +102,7 @@ fill-run-spec =
     (tie.spec
     Inv-loop
     μ-loop
-    clear-requires
+    start-run-requires
     loop-holds
     sub-l
     mul-a

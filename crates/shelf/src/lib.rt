@@ -46,8 +46,8 @@ pub extern "C" fn shelf_encode(
 pub extern "C" fn shelf_mend(k: u64, r: u64, t: u64, l: u64, stripe: &mut [u8], lost: &[u8]) -> u32
     ensures { λ v. ⌜ Mended (shapeOf k r t l) (now (lost .entry)) (now (stripe .entry)) v (now (stripe .exit)) ⌝ }
 {
-    let s = shape_of(k, r, t, l);
-    mend(s, stripe, lost)
+    let shape = shape_of(k, r, t, l);
+    mend(shape, stripe, lost)
 }
 
 // 0, and the parity of the wide stripe is filled in from the bytes of the plan; or 1 to 5, and nothing is written.

@@ -1,5 +1,5 @@
 -- Rows put into a buffer block by block: a block extends its own row and leaves the others.
-use mathlib.Core.Path.{_≡_, refl, sym, ap, _∙_, subst}
+use mathlib.Core.Path.{_≡_, sym, ap, _∙_, subst}
 use mathlib.Core.List.{List}
 use mathlib.Core.Logic.{_⊎_, inl, inr, ⊎-elim}
 use Prim.Native.Nat.{ℕ, zero, suc, _+_, _*_, _-_, _<_, _≤_}
@@ -8,12 +8,13 @@ use native.Mathlib.Omega.{arith}
 use lib.Dec.{lit<}
 use lib.ListN.{length, getD, take, drop}
 use borrow.Rule.Slice.PartMut.{putMid}
+use borrow.Author.Count.{below-more}
 use Rattle.field.specs.Row.{row}
 use Rattle.lanes.specs.Lanes.{onto}
 use Rattle.lanes.proofs.Onto.{onto-at, onto-length}
 use Rattle.stripe.specs.Stripe.{across}
 use Rattle.coding.specs.Rows.{RowIn, RowsBelow, Put}
-use Rattle.lanes.proofs.Parts.{part-length, part-at, back-length, back-inside, back-outside}
+use Rattle.lanes.proofs.Parts.{part-length, back-length, back-inside, back-outside}
 use Rattle.stripe.proofs.Places.{below-or-from}
 
 -- what `copy` into a part leaves of the whole
@@ -83,9 +84,13 @@ module _ (xs : List ℕ) (k l from n : ℕ) (fits : from + n ≤ l) where
         (other 0 2 from from ps b qs (inr (lit< tt)) (omega arith) (omega arith) put0 (λ q. h 2 q (lit< tt)))) p
     filled-3 rs ss e r2 put1 put2 h (suc (suc (suc i))) = λ p j. absurd (not-suc-le-zero (le-of-suc-le-suc (le-of-suc-le-suc (le-of-suc-le-suc j))))
 
--- the same of another number that is the same
-pub row-by : (xs : List ℕ) (k l from n i j : ℕ) (b : List ℕ) → j ≡ i → RowIn xs k l from n i b → RowIn xs k l from n j b
-row-by xs k l from n i j b e h = subst (λ (x : ℕ). RowIn xs k l from n x b) (sym e) h
+-- a whole row more, of columns no longer than a block
+pub short-more : (xs : List ℕ) (k l j : ℕ) (ps b qs : List ℕ) → RowIn xs k l 0 l j b → Put ps (j * l) l b qs → RowsBelow xs k l j l ps → RowsBelow xs k l (j + 1) l qs
+short-more xs k l j ps b qs r put h i p less =
+    below-more (λ (i : ℕ). RowBelow xs k l i l qs) j
+    (λ i d. other xs k l 0 l (omega arith) j i (j * l) l ps b qs (inl d) (omega arith) (omega arith) put (λ q. h i q d))
+    (λ q w. own xs k l 0 l (omega arith) j (j * l) ps b qs (omega arith) put r (λ o z. absurd (not-suc-le-zero z)) q (omega arith)) i less p
 
+-- the same of another number that is the same
 pub rows-by : (xs : List ℕ) (k l r s e : ℕ) (ps : List ℕ) → r ≡ s → RowsBelow xs k l s e ps → RowsBelow xs k l r e ps
 rows-by xs k l r s e ps same h = subst (λ (x : ℕ). RowsBelow xs k l x e ps) (sym same) h

@@ -1,21 +1,24 @@
 -- Horner's rule over columns, from the last to the first: a block that held row j of the columns from o on holds, after one step
 -- with the column before, row j of one column more.
 use mathlib.Core.Path.{_≡_, refl, sym, ap, ap₂, _∙_}
-use mathlib.Core.List.{List}
-use Prim.Native.Nat.{ℕ, suc, _+_, _*_, _-_, _<_, _≤_}
+use mathlib.Core.Bool.{Bool, cond}
+use mathlib.Core.List.{List, [], _∷_}
+use Prim.Native.Nat.{ℕ, zero, suc, _+_, _*_, _-_, _<_, _≤_}
 use native.Mathlib.Omega.{arith}
 use native.Mathlib.Nat.{mul-le-mul-right, zero-mul}
-use lib.ListN.{length, getD, take, drop, replicate, length-replicate, getD-replicate}
+use lib.Dec.{ltb}
+use borrow.Author.Tests.{lt-ltb, le-ltb}
+use lib.ListN.{length, getD, take, drop}
 use Rattle.field.specs.Field.{_⊕_, _⊗_, gpow, power, shifted, doubled}
 use Rattle.field.specs.Bytes.{Bytes}
 use Rattle.field.specs.Row.{row}
-use Rattle.field.proofs.Xor.{add-comm}
-use Rattle.field.proofs.Mul.{one-mul, gpow-zero}
+use Rattle.field.proofs.Xor.{add-comm, add-assoc, add-zero}
+use Rattle.field.proofs.Mul.{one-mul, mul-zero, mul-add, mul-assoc, gpow-zero}
 use Rattle.field.proofs.Rows.{row-nil, row-cons, row-lt}
-use Rattle.lanes.specs.Lanes.{onto}
-use Rattle.lanes.proofs.Onto.{onto-at, onto-length}
+use Rattle.lanes.specs.Lanes.{onto, both}
+use Rattle.lanes.proofs.Onto.{onto-at, onto-length, both-at, both-long}
 use Rattle.stripe.specs.Stripe.{across}
-use Rattle.coding.specs.Rows.{RowIn}
+use Rattle.coding.specs.Rows.{stepOf, RowIn}
 use Rattle.lanes.proofs.Parts.{part-length, part-at}
 
 -- a step of row j: g^j times the first and the second
@@ -33,26 +36,58 @@ pub step-2 : Step 2 (λ (x y : ℕ). 4 ⊗ x ⊕ y)
 unfolding gpow power _⊗_ shifted doubled _⊕_
 step-2 x y h = refl
 
+-- the steps of the source
+pub step-add : (j : ℕ) → j < 1 → (λ (x y : ℕ). x ⊕ y) ≡ stepOf j
+unfolding stepOf
+step-add j h = sym (ap {B = ℕ → ℕ → ℕ} (λ (b : Bool) (x y : ℕ). cond b (x ⊕ y) (cond (ltb j 2) (2 ⊗ x ⊕ y) (4 ⊗ x ⊕ y))) (lt-ltb j 1 h))
+
+pub step-double : (j : ℕ) → 1 ≤ j → j < 2 → (λ (x y : ℕ). 2 ⊗ x ⊕ y) ≡ stepOf j
+unfolding stepOf
+step-double j h k =
+    sym (ap {B = ℕ → ℕ → ℕ} (λ (b : Bool) (x y : ℕ). cond b (x ⊕ y) (cond (ltb j 2) (2 ⊗ x ⊕ y) (4 ⊗ x ⊕ y))) (le-ltb j 1 h)
+    ∙ ap {B = ℕ → ℕ → ℕ} (λ (b : Bool) (x y : ℕ). cond b (2 ⊗ x ⊕ y) (4 ⊗ x ⊕ y)) (lt-ltb j 2 k))
+
+pub step-quadruple : (j : ℕ) → 2 ≤ j → (λ (x y : ℕ). 4 ⊗ x ⊕ y) ≡ stepOf j
+unfolding stepOf
+step-quadruple j h =
+    sym (ap {B = ℕ → ℕ → ℕ} (λ (b : Bool) (x y : ℕ). cond b (x ⊕ y) (cond (ltb j 2) (2 ⊗ x ⊕ y) (4 ⊗ x ⊕ y))) (le-ltb j 1 (omega arith))
+    ∙ ap {B = ℕ → ℕ → ℕ} (λ (b : Bool) (x y : ℕ). cond b (2 ⊗ x ⊕ y) (4 ⊗ x ⊕ y)) (le-ltb j 2 h))
+
+pub step-right : (j : ℕ) → j < 3 → Step j (stepOf j)
+unfolding stepOf
+step-right zero h x y l = step-0 x y l
+step-right (suc zero) h x y l = step-1 x y l
+step-right (suc (suc zero)) h x y l = step-2 x y l
+step-right (suc (suc (suc j))) h x y l = absurd (omega arith)
+
 -- the columns from number i on start within the list, with one column before them
 pub column-before : (len k l i o : ℕ) → len ≡ k * l → i ≤ k → 0 < i → o ≡ i * l → (l ≤ o) × ((o ≤ len) × (o - l ≡ (i - 1) * l))
 column-before len k l i o e h p d =
     let q : (i - 1 + 1) * l ≡ i * l = ap (λ (x : ℕ). x * l) (omega arith) in
     (omega (arith, mul-le-mul-right l p), (omega (arith, mul-le-mul-right l h), omega (arith, q)))
 
+row-one : (j x : ℕ) → x < 256 → row j (x ∷ []) ≡ x
+row-one j x h = row-cons j x [] h ∙ ap (λ (y : ℕ). x ⊕ gpow j ⊗ y) (row-nil j) ∙ ap (λ (y : ℕ). x ⊕ y) (mul-zero (gpow j)) ∙ add-zero x
+
 -- a of w bytes holds row j of the m columns from o on, at the n places from `from` on
 pub record Held (xs : List ℕ) (l from n w j o m : ℕ) (a : List ℕ) : Type 0 where
   pub long : length a ≡ w
   pub at : (q : ℕ) → q < n → getD a q 0 ≡ row j (across xs l (from + q) o m)
 
-no-columns : (xs : List ℕ) (l p j o m : ℕ) → m ≡ 0 → 0 ≡ row j (across xs l p o m)
-unfolding across
-no-columns xs l p j o m e = sym (ap (λ (z : ℕ). row j (across xs l p o z)) e ∙ row-nil j)
+-- what `copy` of a part leaves in a block
+pub copied : (xs a b : List ℕ) (at n : ℕ) → at + n ≤ length xs → n ≤ length a → b ≡ onto (λ (x y : ℕ). y) a (take (at + n - at) (drop at xs))
+    → (q : ℕ) → q < n → getD b q 0 ≡ getD xs (at + q) 0
+copied xs a b at n fits long is q h =
+    ap (λ (x : List ℕ). getD x q 0) is ∙ onto-at (λ (x y : ℕ). y) a _ q (omega arith) (omega (arith, part-length xs at n fits)) ∙ part-at xs at n q h
 
-pub start : (xs : List ℕ) (l from n w j o m : ℕ) → n ≤ w → m ≡ 0 → Held xs l from n w j o m (replicate w 0)
-start xs l from n w j o m h e =
+-- a list that holds the bytes of one column
+pub first : (xs : List ℕ) (l from n w j o m : ℕ) (a : List ℕ) → Bytes xs → length a ≡ w → m ≡ 1 → ((q : ℕ) → q < n → getD a q 0 ≡ getD xs (o + from + q) 0)
+    → Held xs l from n w j o m a
+unfolding across
+first xs l from n w j o m a b long e h =
     record {
-      long = length-replicate w 0;
-      at = λ q p. getD-replicate w q 0 0 (omega arith) ∙ no-columns xs l (from + q) j o m e;
+      long = long;
+      at = λ q p. h q p ∙ ap (λ (x : ℕ). getD xs x 0) (omega arith) ∙ sym (ap (λ (x : ℕ). row j (across xs l (from + q) o x)) e ∙ row-one j _ (b (o + (from + q))));
     }
 
 -- one column more
@@ -85,6 +120,55 @@ turn xs l from n w j o m z a b f st bytes nw lo fits e h is =
         ∙ ap₂ f (h .at q p) (part-at xs s n q p ∙ ap (λ (x : ℕ). getD xs x 0) (omega arith))
         ∙ st _ _ (row-lt j (across xs l (from + q) o m))
         ∙ one-more xs l (from + q) j o m z bytes lo e
+
+-- two columns more of row 2 at once
+four-four : 4 ⊗ 4 ≡ 16
+unfolding _⊗_ shifted doubled _⊕_
+four-four = refl
+
+two-steps : (x y z : ℕ) → 16 ⊗ x ⊕ (4 ⊗ y ⊕ z) ≡ 4 ⊗ (4 ⊗ x ⊕ y) ⊕ z
+two-steps x y z =
+    sym (add-assoc (16 ⊗ x) (4 ⊗ y) z)
+    ∙ ap (λ (w : ℕ). w ⊗ x ⊕ 4 ⊗ y ⊕ z) (sym four-four)
+    ∙ ap (λ (w : ℕ). w ⊕ 4 ⊗ y ⊕ z) (mul-assoc 4 4 x)
+    ∙ ap (λ (w : ℕ). w ⊕ z) (sym (mul-add 4 (4 ⊗ x) y))
+
+pub turn-two : (xs : List ℕ) (l from n w o m z : ℕ) (a b : List ℕ) → Bytes xs → n ≤ w → l ≤ o → l ≤ o - l → o - l + from + n ≤ length xs → z ≡ suc (suc m)
+    → Held xs l from n w 2 o m a
+    → b ≡ onto (λ (x v : ℕ). 16 ⊗ x ⊕ v) a (both (λ (x y : ℕ). 4 ⊗ x ⊕ y) (take (o - l + from + n - (o - l + from)) (drop (o - l + from) xs)) (take (o - l - l + from + n - (o - l - l + from)) (drop (o - l - l + from) xs)))
+    → Held xs l from n w 2 (o - l - l) z b
+turn-two xs l from n w o m z a b bytes nw lo lo′ fits e h is =
+    record { long = ap length is ∙ onto-length (λ (x v : ℕ). 16 ⊗ x ⊕ v) a _ ∙ h .long; at = at }
+  where
+    s : ℕ
+    s = o - l + from
+
+    t : ℕ
+    t = o - l - l + from
+
+    d : List ℕ
+    d = take (s + n - s) (drop s xs)
+
+    f : List ℕ
+    f = take (t + n - t) (drop t xs)
+
+    d-long : length d ≡ n
+    d-long = part-length xs s n fits
+
+    f-long : length f ≡ n
+    f-long = part-length xs t n (omega arith)
+
+    at : (q : ℕ) → q < n → getD b q 0 ≡ row 2 (across xs l (from + q) (o - l - l) z)
+    at q p =
+        ap (λ (x : List ℕ). getD x q 0) is
+        ∙ onto-at (λ (x v : ℕ). 16 ⊗ x ⊕ v) a _ q (omega (arith, h .long)) (omega (arith, both-long (λ (x y : ℕ). 4 ⊗ x ⊕ y) d f n (omega (arith, d-long)) (omega (arith, f-long))))
+        ∙ ap₂ (λ (x v : ℕ). 16 ⊗ x ⊕ v) (h .at q p)
+        (both-at (λ (x y : ℕ). 4 ⊗ x ⊕ y) d f q (omega (arith, d-long)) (omega (arith, f-long))
+        ∙ ap₂ (λ (x y : ℕ). 4 ⊗ x ⊕ y) (part-at xs s n q p ∙ ap (λ (x : ℕ). getD xs x 0) (omega arith)) (part-at xs t n q p ∙ ap (λ (x : ℕ). getD xs x 0) (omega arith)))
+        ∙ two-steps (row 2 (across xs l (from + q) o m)) (getD xs (o - l + (from + q)) 0) (getD xs (o - l - l + (from + q)) 0)
+        ∙ ap (λ (x : ℕ). 4 ⊗ x ⊕ getD xs (o - l - l + (from + q)) 0) (step-2 _ _ (row-lt 2 _) ∙ one-more xs l (from + q) 2 o m (suc m) bytes lo refl)
+        ∙ step-2 _ _ (row-lt 2 _)
+        ∙ one-more xs l (from + q) 2 (o - l) (suc m) z bytes lo′ e
 
 pub done : (xs : List ℕ) (k l from n w j i o m : ℕ) (a : List ℕ) → i ≤ 0 → o ≡ i * l → m ≡ k - i → Held xs l from n w j o m a
     → RowIn xs k l from n j a

@@ -2,7 +2,7 @@
 use mathlib.Core.Path.{_≡_, refl, sym, ap, ap₂, _∙_, subst}
 use mathlib.Core.List.{List}
 use mathlib.Core.Logic.{_⊎_, inl, inr, ⊎-elim}
-use Prim.Native.Nat.{ℕ, zero, suc, _+_, _*_, _-_, _/_, _%_, _<_, _≤_}
+use Prim.Native.Nat.{ℕ, _+_, _*_, _-_, _/_, _%_, _<_, _≤_}
 use native.Mathlib.Nat.{mul-le-mul-right, suc-mul, not-suc-le-zero, div-lt-iff-lt-mul, zero-add as ℕ-zero-add}
 use native.Mathlib.Numerals.{add-one}
 use native.Mathlib.Omega.{arith}
@@ -16,7 +16,7 @@ use Rattle.lanes.proofs.Onto.{onto-at, onto-length}
 use Rattle.stripe.specs.declared.Shape.{Shape}
 use Rattle.stripe.specs.Stripe.{across, rowAt, runLength, parityByte}
 use Rattle.stripe.specs.Column.{lentRefusal}
-use Rattle.coding.specs.Rows.{RowIn, RowsBelow, Added}
+use Rattle.coding.specs.Rows.{RowIn, Added}
 use Rattle.coding.specs.Encode.{IsRow, IsParity, Beside}
 use Rattle.stripe.proofs.Allowed.{Allowed, Prepared, allowed, prepared-runs, prepared-run-length}
 use Rattle.stripe.proofs.Lent.{lent}
@@ -61,8 +61,8 @@ added-more xs k l j from b n w ps qs rs sum f g =
     outside i (inr h) = g .outside i (inr (omega arith)) ∙ f .outside i (inr (omega arith))
 
 -- the same of another number that is the same
-pub added-by : (xs : List ℕ) (k l i j from at n : ℕ) (ps qs : List ℕ) → j ≡ i → Added xs k l i from at n ps qs → Added xs k l j from at n ps qs
-added-by xs k l i j from at n ps qs e h = subst (λ (x : ℕ). Added xs k l x from at n ps qs) (sym e) h
+pub added-all : (xs : List ℕ) (k l j from b w : ℕ) (ps qs : List ℕ) → w ≡ b → Added xs k l j from 0 b ps qs → Added xs k l j from 0 w ps qs
+added-all xs k l j from b w ps qs e h = subst (λ (x : ℕ). Added xs k l j from 0 x ps qs) (sym e) h
 
 -- a run that was lent, in the whole
 pub added-run : (xs : List ℕ) (k l j from a m : ℕ) (ps ys : List ℕ) → a + m ≤ length ps

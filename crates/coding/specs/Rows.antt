@@ -1,12 +1,18 @@
 -- Rows of whole columns of l bytes, place by place.
 use Prim.Native.Nat.{ℕ, _+_, _*_, _<_, _≤_}
 use mathlib.Core.Path.{_≡_}
+use mathlib.Core.Bool.{cond}
 use mathlib.Core.List.{List}
 use mathlib.Core.Logic.{_⊎_}
+use lib.Dec.{ltb}
 use lib.ListN.{length, getD}
-use Rattle.field.specs.Field.{_⊕_}
+use Rattle.field.specs.Field.{_⊕_, _⊗_}
 use Rattle.field.specs.Row.{row}
 use Rattle.stripe.specs.Stripe.{across}
+
+-- a step of row j, of the first three: g^j times the first, and the second
+unfoldable pub stepOf : ℕ → ℕ → ℕ → ℕ
+stepOf j x y = cond (ltb j 1) (x ⊕ y) (cond (ltb j 2) (2 ⊗ x ⊕ y) (4 ⊗ x ⊕ y))
 
 -- the first n bytes of b are row j of the k columns at the places from `from` on
 abbrev pub RowIn : List ℕ → ℕ → ℕ → ℕ → ℕ → ℕ → List ℕ → Type 0

@@ -1,57 +1,83 @@
-// Rows of whole columns, in blocks of up to 64 places. The rows of a block are formed together, by Horner's rule from the last
-// column to the first, in local arrays that the steps of `lanes` are lent. Each count of rows has its own functions, and whole
-// blocks are asked for by the literal 64: so the compiler keeps a block in registers.
+// Rows of whole columns, in blocks of 64 places. The rows of a block are formed together, by Horner's rule from the last column to
+// the first, in local arrays that the steps of `lanes` are lent. Each count of rows has its own functions, and a block has the
+// literal length 64: so the compiler keeps it in registers. The last block of a column ends where the column ends, over bytes that
+// are there already; only a column shorter than a block is taken row by row.
 use lanes::add;
 use lanes::copy;
 use lanes::double_add;
 use lanes::quadruple_add;
+use lanes::quadruple_add_two;
 ghost use mathlib.Core.Path.{_≡_};
 ghost use Prim.Native.Nat.{ℕ, _+_, _*_, _≤_, _<_};
 ghost use lib.ListN.{length, getD};
-ghost use Rattle.coding.specs.Rows.{RowIn, RowsBelow, Put, Added};
+ghost use Rattle.lanes.specs.Lanes.{onto};
+ghost use Rattle.coding.specs.Rows.{stepOf, RowIn, RowsBelow, Put, Added};
 
-// Rows 0, 1 and 2 of a block, or the first of them.
-pub(crate) struct Rows {
-    pub(crate) row0: [u8; 64],
-    pub(crate) row1: [u8; 64],
-    pub(crate) row2: [u8; 64],
+// Rows 0, 1 and 2 of a block, or the first two of them.
+struct Rows {
+    row0: [u8; 64],
+    row1: [u8; 64],
+    row2: [u8; 64],
 }
 
-// Row 0 of the k columns of l bytes, at the n places from `from` on.
-pub(crate) fn block1(data: &[u8], k: usize, l: usize, from: usize, n: usize) -> Rows
-    requires { ⌜ (length (now «data») ≡ k * l) × ((n ≤ 64) × (from + n ≤ l)) ⌝ }
-    ensures { λ v. ⌜ RowIn (now («data» .entry)) k l from n 0 (v .row0) ⌝ }
+// The n bytes from `at` on: any row of a last column alone.
+fn last(data: &[u8], at: usize, n: usize) -> [u8; 64]
+    requires { ⌜ (at + n ≤ length (now «data»)) × (n ≤ 64) ⌝ }
+    ensures { λ v. ⌜ ((q : ℕ) → q < n → getD v q 0 ≡ getD (now («data» .entry)) (at + q) 0) ⌝ }
 {
-    let mut row0 = [0u8; 64];
-    let mut i = k;
-    let mut o = data.len();
+    let e = at + n;
+    let mut a = [0u8; 64];
+    copy(&mut a, &data[at..e]);
+    a
+}
+
+// Row j, of the first three, of the k columns of l bytes, at the n places from `from` on.
+fn row_block(data: &[u8], k: usize, l: usize, j: usize, from: usize, n: usize) -> [u8; 64]
+    requires { ⌜ (length (now «data») ≡ k * l) × ((0 < k) × ((j < 3) × ((n ≤ 64) × (from + n ≤ l)))) ⌝ }
+    ensures { λ v. ⌜ RowIn (now («data» .entry)) k l from n j v ⌝ }
+{
+    let mut i = k - 1;
+    let mut o = data.len() - l;
+    let mut a = last(data, o + from, n);
     while 0 < i {
         i = i - 1;
         o = o - l;
         let s = o + from;
         let e = s + n;
-        let d = &data[s..e];
-        add(&mut row0, d);
+        step(&mut a, &data[s..e], j);
     }
-    let row1 = [0u8; 64];
-    let row2 = [0u8; 64];
-    Rows { row0, row1, row2 }
+    a
 }
 
-// Rows 0 and 1 of the k columns of l bytes, at the n places from `from` on.
-pub(crate) fn block2(data: &[u8], k: usize, l: usize, from: usize, n: usize) -> Rows
-    requires { ⌜ (length (now «data») ≡ k * l) × ((n ≤ 64) × (from + n ≤ l)) ⌝ }
-    ensures { λ v. ⌜ RowIn (now («data» .entry)) k l from n 0 (v .row0) × RowIn (now («data» .entry)) k l from n 1 (v .row1) ⌝ }
+// At each place g^j times the first, and the second; j is one of the first three.
+fn step(a: &mut [u8], d: &[u8], j: usize)
+    ensures { λ _. ⌜ now (a .exit) ≡ onto (stepOf j) (now (a .entry)) (now (d .entry)) ⌝ }
 {
-    let mut row0 = [0u8; 64];
-    let mut row1 = [0u8; 64];
-    let mut i = k;
-    let mut o = data.len();
+    if j < 1 {
+        add(a, d);
+        return;
+    }
+    if j < 2 {
+        double_add(a, d);
+        return;
+    }
+    quadruple_add(a, d);
+}
+
+// Rows 0 and 1 at the 64 places from `from` on.
+fn block2(data: &[u8], k: usize, l: usize, from: usize) -> Rows
+    requires { ⌜ (length (now «data») ≡ k * l) × ((0 < k) × (from + 64 ≤ l)) ⌝ }
+    ensures { λ v. ⌜ RowIn (now («data» .entry)) k l from 64 0 (v .row0) × RowIn (now («data» .entry)) k l from 64 1 (v .row1) ⌝ }
+{
+    let mut i = k - 1;
+    let mut o = data.len() - l;
+    let mut row0 = last(data, o + from, 64);
+    let mut row1 = row0;
     while 0 < i {
         i = i - 1;
         o = o - l;
         let s = o + from;
-        let e = s + n;
+        let e = s + 64;
         let d = &data[s..e];
         add(&mut row0, d);
         double_add(&mut row1, d);
@@ -60,87 +86,41 @@ pub(crate) fn block2(data: &[u8], k: usize, l: usize, from: usize, n: usize) -> 
     Rows { row0, row1, row2 }
 }
 
-// Rows 0, 1 and 2 of the k columns of l bytes, at the n places from `from` on.
-pub(crate) fn block3(data: &[u8], k: usize, l: usize, from: usize, n: usize) -> Rows
-    requires { ⌜ (length (now «data») ≡ k * l) × ((n ≤ 64) × (from + n ≤ l)) ⌝ }
-    ensures { λ v. ⌜ RowIn (now («data» .entry)) k l from n 0 (v .row0) × (RowIn (now («data» .entry)) k l from n 1 (v .row1) × RowIn (now («data» .entry)) k l from n 2 (v .row2)) ⌝ }
+// Rows 0, 1 and 2 at the 64 places from `from` on, two columns at a time: so row 2 takes less work.
+fn block3(data: &[u8], k: usize, l: usize, from: usize) -> Rows
+    requires { ⌜ (length (now «data») ≡ k * l) × ((0 < k) × (from + 64 ≤ l)) ⌝ }
+    ensures { λ v. ⌜ RowIn (now («data» .entry)) k l from 64 0 (v .row0) × (RowIn (now («data» .entry)) k l from 64 1 (v .row1) × RowIn (now («data» .entry)) k l from 64 2 (v .row2)) ⌝ }
 {
-    let mut row0 = [0u8; 64];
-    let mut row1 = [0u8; 64];
-    let mut row2 = [0u8; 64];
-    let mut i = k;
-    let mut o = data.len();
-    while 0 < i {
-        i = i - 1;
+    let mut i = k - 1;
+    let mut o = data.len() - l;
+    let mut row0 = last(data, o + from, 64);
+    let mut row1 = row0;
+    let mut row2 = row0;
+    while 1 < i {
+        i = i - 2;
         o = o - l;
         let s = o + from;
-        let e = s + n;
+        let e = s + 64;
+        let d = &data[s..e];
+        o = o - l;
+        let t = o + from;
+        let u = t + 64;
+        let f = &data[t..u];
+        add(&mut row0, d);
+        add(&mut row0, f);
+        double_add(&mut row1, d);
+        double_add(&mut row1, f);
+        quadruple_add_two(&mut row2, d, f);
+    }
+    if 0 < i {
+        let s = o - l + from;
+        let e = s + 64;
         let d = &data[s..e];
         add(&mut row0, d);
         double_add(&mut row1, d);
         quadruple_add(&mut row2, d);
     }
     Rows { row0, row1, row2 }
-}
-
-// Row 1 alone, at the n places from `from` on.
-fn row1_block(data: &[u8], k: usize, l: usize, from: usize, n: usize) -> [u8; 64]
-    requires { ⌜ (length (now «data») ≡ k * l) × ((n ≤ 64) × (from + n ≤ l)) ⌝ }
-    ensures { λ v. ⌜ RowIn (now («data» .entry)) k l from n 1 v ⌝ }
-{
-    let mut a = [0u8; 64];
-    let mut i = k;
-    let mut o = data.len();
-    while 0 < i {
-        i = i - 1;
-        o = o - l;
-        let s = o + from;
-        let e = s + n;
-        let d = &data[s..e];
-        double_add(&mut a, d);
-    }
-    a
-}
-
-// Row 2 alone, at the n places from `from` on.
-fn row2_block(data: &[u8], k: usize, l: usize, from: usize, n: usize) -> [u8; 64]
-    requires { ⌜ (length (now «data») ≡ k * l) × ((n ≤ 64) × (from + n ≤ l)) ⌝ }
-    ensures { λ v. ⌜ RowIn (now («data» .entry)) k l from n 2 v ⌝ }
-{
-    let mut a = [0u8; 64];
-    let mut i = k;
-    let mut o = data.len();
-    while 0 < i {
-        i = i - 1;
-        o = o - l;
-        let s = o + from;
-        let e = s + n;
-        let d = &data[s..e];
-        quadruple_add(&mut a, d);
-    }
-    a
-}
-
-// Row j, of the first three, at the n places from `from` on.
-pub(crate) fn row_block(
-    data: &[u8],
-    k: usize,
-    l: usize,
-    from: usize,
-    n: usize,
-    j: usize,
-) -> [u8; 64]
-    requires { ⌜ (length (now «data») ≡ k * l) × ((n ≤ 64) × ((from + n ≤ l) × (j < 3))) ⌝ }
-    ensures { λ v. ⌜ RowIn (now («data» .entry)) k l from n j v ⌝ }
-{
-    if j < 1 {
-        let b = block1(data, k, l, from, n);
-        return b.row0;
-    }
-    if j < 2 {
-        return row1_block(data, k, l, from, n);
-    }
-    row2_block(data, k, l, from, n)
 }
 
 // The first n bytes of the block b, from `at` on.
@@ -152,86 +132,110 @@ fn put(parity: &mut [u8], at: usize, n: usize, b: &[u8; 64])
     copy(&mut parity[at..e], b);
 }
 
-// Row 0 at the n places from `from` on, where those before are there.
-fn fill_block1(data: &[u8], k: usize, l: usize, from: usize, n: usize, parity: &mut [u8])
-    requires { ⌜ (length (now «data») ≡ k * l) × ((n ≤ 64) × ((from + n ≤ l) × ((length (now parity) ≡ 1 * l) × RowsBelow (now «data») k l 1 from (now parity)))) ⌝ }
-    ensures { λ _. ⌜ (length (now (parity .exit)) ≡ 1 * l) × RowsBelow (now («data» .entry)) k l 1 (from + n) (now (parity .exit)) ⌝ }
+// Where the block starts that takes the place b of l places: there, or where the last block does.
+fn block_at(b: usize, l: usize) -> usize
+    requires { ⌜ (b < l) × (64 ≤ l) ⌝ }
+    ensures { λ v. ⌜ (v ≤ b) × ((b < v + 64) × (v + 64 ≤ l)) ⌝ }
 {
-    let v = block1(data, k, l, from, n);
-    let b0 = v.row0;
-    put(parity, from, n, &b0);
+    if l - b < 64 { l - 64 } else { b }
+}
+
+// Row 0 at the 64 places from `from` on, where those before are there.
+fn fill_block1(data: &[u8], k: usize, l: usize, from: usize, parity: &mut [u8])
+    requires { ⌜ (length (now «data») ≡ k * l) × ((0 < k) × ((from + 64 ≤ l) × ((length (now parity) ≡ 1 * l) × RowsBelow (now «data») k l 1 from (now parity)))) ⌝ }
+    ensures { λ _. ⌜ (length (now (parity .exit)) ≡ 1 * l) × RowsBelow (now («data» .entry)) k l 1 (from + 64) (now (parity .exit)) ⌝ }
+{
+    let b0 = row_block(data, k, l, 0, from, 64);
+    put(parity, from, 64, &b0);
 }
 
 // Row 0 at all places.
 fn fill1(data: &[u8], k: usize, l: usize, parity: &mut [u8])
-    requires { ⌜ (length (now «data») ≡ k * l) × (length (now parity) ≡ 1 * l) ⌝ }
+    requires { ⌜ (length (now «data») ≡ k * l) × ((0 < k) × ((64 ≤ l) × (length (now parity) ≡ 1 * l))) ⌝ }
     ensures { λ _. ⌜ RowsBelow (now («data» .entry)) k l 1 l (now (parity .exit)) ⌝ }
 {
     let mut b = 0;
-    while 64 <= l - b {
-        fill_block1(data, k, l, b, 64, parity);
-        b += 64;
+    while b < l {
+        let at = block_at(b, l);
+        fill_block1(data, k, l, at, parity);
+        b = at + 64;
     }
-    fill_block1(data, k, l, b, l - b, parity);
 }
 
-// Rows 0 and 1 at the n places from `from` on, where those before are there.
-fn fill_block2(data: &[u8], k: usize, l: usize, from: usize, n: usize, parity: &mut [u8])
-    requires { ⌜ (length (now «data») ≡ k * l) × ((n ≤ 64) × ((from + n ≤ l) × ((length (now parity) ≡ 2 * l) × RowsBelow (now «data») k l 2 from (now parity)))) ⌝ }
-    ensures { λ _. ⌜ (length (now (parity .exit)) ≡ 2 * l) × RowsBelow (now («data» .entry)) k l 2 (from + n) (now (parity .exit)) ⌝ }
+// Rows 0 and 1 at the 64 places from `from` on, where those before are there.
+fn fill_block2(data: &[u8], k: usize, l: usize, from: usize, parity: &mut [u8])
+    requires { ⌜ (length (now «data») ≡ k * l) × ((0 < k) × ((from + 64 ≤ l) × ((length (now parity) ≡ 2 * l) × RowsBelow (now «data») k l 2 from (now parity)))) ⌝ }
+    ensures { λ _. ⌜ (length (now (parity .exit)) ≡ 2 * l) × RowsBelow (now («data» .entry)) k l 2 (from + 64) (now (parity .exit)) ⌝ }
 {
-    let v = block2(data, k, l, from, n);
+    let v = block2(data, k, l, from);
     let b0 = v.row0;
-    put(parity, from, n, &b0);
+    put(parity, from, 64, &b0);
     let b1 = v.row1;
-    put(parity, l + from, n, &b1);
+    put(parity, l + from, 64, &b1);
 }
 
 // Rows 0 and 1 at all places.
 fn fill2(data: &[u8], k: usize, l: usize, parity: &mut [u8])
-    requires { ⌜ (length (now «data») ≡ k * l) × (length (now parity) ≡ 2 * l) ⌝ }
+    requires { ⌜ (length (now «data») ≡ k * l) × ((0 < k) × ((64 ≤ l) × (length (now parity) ≡ 2 * l))) ⌝ }
     ensures { λ _. ⌜ RowsBelow (now («data» .entry)) k l 2 l (now (parity .exit)) ⌝ }
 {
     let mut b = 0;
-    while 64 <= l - b {
-        fill_block2(data, k, l, b, 64, parity);
-        b += 64;
+    while b < l {
+        let at = block_at(b, l);
+        fill_block2(data, k, l, at, parity);
+        b = at + 64;
     }
-    fill_block2(data, k, l, b, l - b, parity);
 }
 
-// Rows 0, 1 and 2 at the n places from `from` on, where those before are there.
-fn fill_block3(data: &[u8], k: usize, l: usize, from: usize, n: usize, parity: &mut [u8])
-    requires { ⌜ (length (now «data») ≡ k * l) × ((n ≤ 64) × ((from + n ≤ l) × ((length (now parity) ≡ 3 * l) × RowsBelow (now «data») k l 3 from (now parity)))) ⌝ }
-    ensures { λ _. ⌜ (length (now (parity .exit)) ≡ 3 * l) × RowsBelow (now («data» .entry)) k l 3 (from + n) (now (parity .exit)) ⌝ }
+// Rows 0, 1 and 2 at the 64 places from `from` on, where those before are there.
+fn fill_block3(data: &[u8], k: usize, l: usize, from: usize, parity: &mut [u8])
+    requires { ⌜ (length (now «data») ≡ k * l) × ((0 < k) × ((from + 64 ≤ l) × ((length (now parity) ≡ 3 * l) × RowsBelow (now «data») k l 3 from (now parity)))) ⌝ }
+    ensures { λ _. ⌜ (length (now (parity .exit)) ≡ 3 * l) × RowsBelow (now («data» .entry)) k l 3 (from + 64) (now (parity .exit)) ⌝ }
 {
-    let v = block3(data, k, l, from, n);
+    let v = block3(data, k, l, from);
     let b0 = v.row0;
-    put(parity, from, n, &b0);
+    put(parity, from, 64, &b0);
     let b1 = v.row1;
-    put(parity, l + from, n, &b1);
+    put(parity, l + from, 64, &b1);
     let b2 = v.row2;
-    put(parity, l + l + from, n, &b2);
+    put(parity, l + l + from, 64, &b2);
 }
 
 // Rows 0, 1 and 2 at all places.
 fn fill3(data: &[u8], k: usize, l: usize, parity: &mut [u8])
-    requires { ⌜ (length (now «data») ≡ k * l) × (length (now parity) ≡ 3 * l) ⌝ }
+    requires { ⌜ (length (now «data») ≡ k * l) × ((0 < k) × ((64 ≤ l) × (length (now parity) ≡ 3 * l))) ⌝ }
     ensures { λ _. ⌜ RowsBelow (now («data» .entry)) k l 3 l (now (parity .exit)) ⌝ }
 {
     let mut b = 0;
-    while 64 <= l - b {
-        fill_block3(data, k, l, b, 64, parity);
-        b += 64;
+    while b < l {
+        let at = block_at(b, l);
+        fill_block3(data, k, l, at, parity);
+        b = at + 64;
     }
-    fill_block3(data, k, l, b, l - b, parity);
+}
+
+// The first r rows of columns no longer than a block.
+fn fill_short(data: &[u8], k: usize, l: usize, r: usize, parity: &mut [u8])
+    requires { ⌜ (length (now «data») ≡ k * l) × ((0 < k) × ((l ≤ 64) × ((length (now parity) ≡ r * l) × (r ≤ 3)))) ⌝ }
+    ensures { λ _. ⌜ RowsBelow (now («data» .entry)) k l r l (now (parity .exit)) ⌝ }
+{
+    let mut j = 0;
+    while j < r {
+        let b = row_block(data, k, l, j, 0, l);
+        put(parity, j * l, l, &b);
+        j += 1;
+    }
 }
 
 // The first r rows of the k columns of l bytes, at all places.
 pub(crate) fn fill_rows(data: &[u8], k: usize, l: usize, r: usize, parity: &mut [u8])
-    requires { ⌜ (length (now «data») ≡ k * l) × ((length (now parity) ≡ r * l) × ((1 ≤ r) × (r ≤ 3))) ⌝ }
+    requires { ⌜ (length (now «data») ≡ k * l) × ((0 < k) × ((length (now parity) ≡ r * l) × ((1 ≤ r) × (r ≤ 3)))) ⌝ }
     ensures { λ _. ⌜ RowsBelow (now («data» .entry)) k l r l (now (parity .exit)) ⌝ }
 {
+    if l < 64 {
+        fill_short(data, k, l, r, parity);
+        return;
+    }
     if r < 2 {
         fill1(data, k, l, parity);
         return;
@@ -243,62 +247,37 @@ pub(crate) fn fill_rows(data: &[u8], k: usize, l: usize, r: usize, parity: &mut 
     fill3(data, k, l, parity);
 }
 
-// Row 1 at the n places from `from` on, added at the n places of a run from `at` on.
-fn add_block1(data: &[u8], k: usize, l: usize, from: usize, at: usize, n: usize, run: &mut [u8])
-    requires { ⌜ (length (now «data») ≡ k * l) × ((n ≤ 64) × ((from + n ≤ l) × (at + n ≤ length (now run)))) ⌝ }
-    ensures { λ _. ⌜ Added (now («data» .entry)) k l 1 from at n (now (run .entry)) (now (run .exit)) ⌝ }
+// Row j, of the first three, at the n places from `from` on, added at the n places of a run from `at` on.
+fn add_block(
+    data: &[u8],
+    k: usize,
+    l: usize,
+    j: usize,
+    from: usize,
+    at: usize,
+    n: usize,
+    run: &mut [u8],
+)
+    requires { ⌜ (length (now «data») ≡ k * l) × ((0 < k) × ((j < 3) × ((n ≤ 64) × ((from + n ≤ l) × (at + n ≤ length (now run)))))) ⌝ }
+    ensures { λ _. ⌜ Added (now («data» .entry)) k l j from at n (now (run .entry)) (now (run .exit)) ⌝ }
 {
-    let b = row1_block(data, k, l, from, n);
+    let b = row_block(data, k, l, j, from, n);
     let e = at + n;
     add(&mut run[at..e], &b);
 }
 
-// Row 1 at the places from `from` on, added to a run.
-fn add_row1(data: &[u8], k: usize, l: usize, from: usize, run: &mut [u8])
-    requires { ⌜ (length (now «data») ≡ k * l) × (from + length (now run) ≤ l) ⌝ }
-    ensures { λ _. ⌜ Added (now («data» .entry)) k l 1 from 0 (length (now (run .entry))) (now (run .entry)) (now (run .exit)) ⌝ }
-{
-    let m = run.len();
-    let mut b = 0;
-    while 64 <= m - b {
-        add_block1(data, k, l, from + b, b, 64, run);
-        b += 64;
-    }
-    add_block1(data, k, l, from + b, b, m - b, run);
-}
-
-// Row 2 at the n places from `from` on, added at the n places of a run from `at` on.
-fn add_block2(data: &[u8], k: usize, l: usize, from: usize, at: usize, n: usize, run: &mut [u8])
-    requires { ⌜ (length (now «data») ≡ k * l) × ((n ≤ 64) × ((from + n ≤ l) × (at + n ≤ length (now run)))) ⌝ }
-    ensures { λ _. ⌜ Added (now («data» .entry)) k l 2 from at n (now (run .entry)) (now (run .exit)) ⌝ }
-{
-    let b = row2_block(data, k, l, from, n);
-    let e = at + n;
-    add(&mut run[at..e], &b);
-}
-
-// Row 2 at the places from `from` on, added to a run.
-fn add_row2(data: &[u8], k: usize, l: usize, from: usize, run: &mut [u8])
-    requires { ⌜ (length (now «data») ≡ k * l) × (from + length (now run) ≤ l) ⌝ }
-    ensures { λ _. ⌜ Added (now («data» .entry)) k l 2 from 0 (length (now (run .entry))) (now (run .entry)) (now (run .exit)) ⌝ }
-{
-    let m = run.len();
-    let mut b = 0;
-    while 64 <= m - b {
-        add_block2(data, k, l, from + b, b, 64, run);
-        b += 64;
-    }
-    add_block2(data, k, l, from + b, b, m - b, run);
-}
-
-// Row j, of rows 1 and 2, at the places from `from` on, added to a run.
+// Row j, of the first three, at the places from `from` on, added to a run.
 pub(crate) fn add_row(data: &[u8], k: usize, l: usize, j: usize, from: usize, run: &mut [u8])
-    requires { ⌜ (length (now «data») ≡ k * l) × ((from + length (now run) ≤ l) × ((0 < j) × (j < 3))) ⌝ }
+    requires { ⌜ (length (now «data») ≡ k * l) × ((0 < k) × ((j < 3) × (from + length (now run) ≤ l))) ⌝ }
     ensures { λ _. ⌜ Added (now («data» .entry)) k l j from 0 (length (now (run .entry))) (now (run .entry)) (now (run .exit)) ⌝ }
 {
-    if j < 2 {
-        add_row1(data, k, l, from, run);
-        return;
+    let m = run.len();
+    let mut b = 0;
+    while 64 <= m - b {
+        add_block(data, k, l, j, from + b, b, 64, run);
+        b += 64;
     }
-    add_row2(data, k, l, from, run);
+    if b < m {
+        add_block(data, k, l, j, from + b, b, m - b, run);
+    }
 }

@@ -1,20 +1,19 @@
 -- The laws of the product. Assumes nothing.
 use mathlib.Core.Path.{_≡_, refl, sym, ap, ap₂, _∙_, subst}
-use mathlib.Core.Bool.{Bool, true, false}
+use mathlib.Core.Bool.{Bool}
 use Prim.Native.Nat.{ℕ, zero, suc, _+_, _-_, _≤_, _*_, _/_, _%_, _<_, _^_}
 use native.Mathlib.Nat.{mod-lt, zero-lt-suc, mod-eq-of-lt, div-add-mod', mul-div-cancel, mul-mod-left}
 use native.Mathlib.Nat.{add-zero as ℕ-add-zero, zero-add as ℕ-zero-add, add-comm as ℕ-add-comm, add-assoc as ℕ-add-assoc, zero-mul as ℕ-zero-mul, mul-comm as ℕ-mul-comm, suc-mul, add-suc, suc-add, le-of-suc-le-suc, not-suc-le-zero}
 use native.Mathlib.Omega.{arith}
-use lib.Arith.{bin-ind, digits-div, digits-mod}
 use lib.Bits.{bitXor, differ, xor-step}
 use mathlib.Core.List.{List, [], _∷_}
-use lib.ListN.{getD, length}
+use lib.ListN.{getD}
 use lib.Pow.{mod-mod-pow, field}
 use native.Mathlib.Numerals.{add-one}
 use lib.Dec.{T, eqb, eqb→eq, ltb, ltb→lt, lit<}
 use Rattle.field.specs.Field.{_⊕_, times, doubled, shifted, _⊗_, power, gpow, inverseOf, polynomial}
-use Rattle.field.proofs.Xor.{add-assoc, add-comm, add-left-comm, add-self, zero-add, add-zero, add-cancel, add-lt, add-shr, add-mod, sums}
-use Rattle.field.proofs.Below.{both, both-left, both-right, all, below}
+use Rattle.field.proofs.Xor.{add-self, zero-add, add-zero, add-lt, add-shr, add-mod, sums}
+use Rattle.field.proofs.Below.{both, both-left, both-right, below}
 use Rattle.field.proofs.Tables.{powers, logarithms}
 
 -- ---- a digit times a sum, a sum of digits times an element

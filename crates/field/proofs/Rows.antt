@@ -1,16 +1,16 @@
 -- The laws of rows. Assumes nothing.
-use mathlib.Core.Path.{_≡_, refl, sym, ap, ap₂, _∙_, subst}
+use mathlib.Core.Path.{_≡_, refl, sym, ap, ap₂, _∙_}
 use mathlib.Core.List.{List, [], _∷_, _++_}
 use Prim.Native.Nat.{ℕ, zero, suc, _+_, _*_, _<_}
-use native.Mathlib.Nat.{add-zero as ℕ-add-zero, zero-add as ℕ-zero-add, add-comm as ℕ-add-comm, zero-mul as ℕ-zero-mul, one-mul as ℕ-one-mul, le-of-suc-le-suc, not-suc-le-zero, add-suc, suc-add, add-mul as ℕ-add-mul, suc-mul, suc-inj, suc-ne-zero}
+use native.Mathlib.Nat.{add-zero as ℕ-add-zero, zero-add as ℕ-zero-add, zero-mul as ℕ-zero-mul, one-mul as ℕ-one-mul, le-of-suc-le-suc, not-suc-le-zero, add-suc, suc-add, add-mul as ℕ-add-mul, suc-inj, suc-ne-zero}
 use lib.ListN.{length, getD, set}
 use Rattle.field.specs.Field.{_⊕_, _⊗_, gpow}
 use Rattle.field.specs.Bytes.{_⊞_, Bytes}
 use Rattle.field.specs.Row.{rowFrom, row}
 use lib.Dec.{lit<}
 use Rattle.field.specs.Solve.{eval}
-use Rattle.field.proofs.Xor.{add-assoc, add-lt, zero-add, add-zero, sums}
-use Rattle.field.proofs.Mul.{mul-lt, mul-zero, mul-add, add-mul, mul-assoc, one-mul, gpow-add, gpow-zero, products}
+use Rattle.field.proofs.Xor.{add-assoc, add-lt, zero-add, sums}
+use Rattle.field.proofs.Mul.{mul-lt, mul-zero, mul-add, mul-assoc, one-mul, gpow-add, gpow-zero}
 
 -- a row that starts n places later is g^(n j) times the row
 pub row-shift : (j n i : ℕ) (ms : List ℕ) → rowFrom j (n + i) ms ≡ gpow (n * j) ⊗ rowFrom j i ms

@@ -1,9 +1,9 @@
 -- The solving lemma: e sums whose weights are not 0 and whose e points differ belong to exactly one list of e values, and
 -- `solve` gives it. One induction over the points: taking the first point b out of the sums leaves, for the others, sums of
 -- the same kind with each weight times (its point + b), which is not 0 since the points differ.
-use mathlib.Core.Path.{_≡_, refl, sym, ap, ap₂, _∙_, subst}
+use mathlib.Core.Path.{_≡_, refl, sym, ap, ap₂, _∙_}
 use mathlib.Core.List.{List, [], _∷_}
-use Prim.Native.Nat.{ℕ, zero, suc, _<_, _≤_, zero-le, suc-le-suc}
+use Prim.Native.Nat.{ℕ, zero, suc, _<_, zero-le, suc-le-suc}
 use native.Mathlib.Nat.{suc-inj, suc-ne-zero, le-of-suc-le-suc, not-suc-le-zero}
 use native.Mathlib.Omega.{arith}
 use lib.Dec.{lit<}
@@ -12,7 +12,7 @@ use Rattle.field.specs.Field.{_⊕_, _⊗_, power, inverseOf}
 use Rattle.field.specs.Bytes.{Bytes}
 use Rattle.field.specs.Solve.{moment, apart, cleared, solve}
 use Rattle.field.proofs.Xor.{zero-add, add-zero, add-self, add-cancel, add-comm, add-assoc, add-lt, sums}
-use Rattle.field.proofs.Mul.{mul-zero, zero-mul, mul-lt, mul-pos, mul-comm, mul-inverse, inverse-lt, mul-add, add-mul, mul-assoc, one-mul, mul-one, products, power-suc, power-zero}
+use Rattle.field.proofs.Mul.{mul-zero, mul-lt, mul-pos, mul-comm, mul-inverse, mul-assoc, one-mul, mul-one, products, power-suc, power-zero}
 
 -- a is none of the points
 abbrev pub Away : ℕ → List ℕ → Type 0

@@ -7,7 +7,7 @@ use native.Mathlib.Nat.{le-of-suc-le-suc, not-suc-le-zero}
 use native.Mathlib.Numerals.{add-one}
 use native.Mathlib.Omega.{arith}
 use lib.ListN.{length, getD, set, take}
-use Rattle.lanes.specs.Lanes.{onto}
+use Rattle.lanes.specs.Lanes.{onto, both}
 
 pub onto-nil : (f : ℕ → ℕ → ℕ) (xs : List ℕ) → onto f xs [] ≡ xs
 unfolding onto
@@ -42,6 +42,43 @@ pub onto-map : (f : ℕ → ℕ) (xs : List ℕ) → onto (λ (x y : ℕ). f x) 
 unfolding onto
 onto-map f [] = refl
 onto-map f (x ∷ xs) = ap (λ (l : List ℕ). f x ∷ l) (onto-map f xs)
+
+-- two lists taken together
+pub both-at : (f : ℕ → ℕ → ℕ) (xs ys : List ℕ) (i : ℕ) → i < length xs → i < length ys → getD (both f xs ys) i 0 ≡ f (getD xs i 0) (getD ys i 0)
+unfolding both
+both-at f [] ys i hx hy = absurd (not-suc-le-zero hx)
+both-at f (x ∷ xs) [] i hx hy = absurd (not-suc-le-zero hy)
+both-at f (x ∷ xs) (y ∷ ys) zero hx hy = refl
+both-at f (x ∷ xs) (y ∷ ys) (suc i) hx hy = both-at f xs ys i (le-of-suc-le-suc hx) (le-of-suc-le-suc hy)
+
+pub both-long : (f : ℕ → ℕ → ℕ) (xs ys : List ℕ) (n : ℕ) → n ≤ length xs → n ≤ length ys → n ≤ length (both f xs ys)
+unfolding both
+both-long f [] ys n hx hy = hx
+both-long f (x ∷ xs) [] n hx hy = hy
+both-long f (x ∷ xs) (y ∷ ys) zero hx hy = omega arith
+both-long f (x ∷ xs) (y ∷ ys) (suc n) hx hy = omega (arith, both-long f xs ys n (le-of-suc-le-suc hx) (le-of-suc-le-suc hy))
+
+both-first : (f : ℕ → ℕ → ℕ) (xs ys : List ℕ) → length (both f xs ys) ≤ length xs
+unfolding both
+both-first f [] ys = omega arith
+both-first f (x ∷ xs) [] = omega arith
+both-first f (x ∷ xs) (y ∷ ys) = omega (arith, both-first f xs ys)
+
+both-second : (f : ℕ → ℕ → ℕ) (xs ys : List ℕ) → length (both f xs ys) ≤ length ys
+unfolding both
+both-second f [] ys = omega arith
+both-second f (x ∷ xs) [] = omega arith
+both-second f (x ∷ xs) (y ∷ ys) = omega (arith, both-second f xs ys)
+
+both-short : (f : ℕ → ℕ → ℕ) (xs ys : List ℕ) (n : ℕ) → (length xs ≤ n) ⊎ (length ys ≤ n) → length (both f xs ys) ≤ n
+both-short f xs ys n (inl h) = omega (arith, both-first f xs ys)
+both-short f xs ys n (inr h) = omega (arith, both-second f xs ys)
+
+-- the end of the shortest of three
+pub shortest : (f : ℕ → ℕ → ℕ) (zs xs ys : List ℕ) (m n : ℕ) → (length xs ≤ m) ⊎ (length ys ≤ m) → (length zs ≤ n) ⊎ (m ≤ n)
+    → (length zs ≤ n) ⊎ (length (both f xs ys) ≤ n)
+shortest f zs xs ys m n h (inl k) = inl k
+shortest f zs xs ys m n h (inr k) = inr (omega (arith, both-short f xs ys m h))
 
 -- ---- the loop
 

@@ -13,6 +13,12 @@ onto f [] ys = []
 onto f (x ∷ xs) [] = x ∷ xs
 onto f (x ∷ xs) (y ∷ ys) = f x y ∷ onto f xs ys
 
+-- f of the two bytes at each place, to the end of the shorter
+unfoldable pub both : (ℕ → ℕ → ℕ) → List ℕ → List ℕ → List ℕ
+both f [] ys = []
+both f (x ∷ xs) [] = []
+both f (x ∷ xs) (y ∷ ys) = f x y ∷ both f xs ys
+
 -- whether the two lists agree at each place
 unfoldable pub agree : List ℕ → List ℕ → Bool
 agree [] ys = true

@@ -4,11 +4,11 @@ ghost use mathlib.Core.Path.{_≡_};
 ghost use mathlib.Core.Logic.{_⊎_};
 ghost use mathlib.Core.Bool.{cond};
 ghost use mathlib.Core.List.{map};
-ghost use Prim.Native.Nat.{ℕ, _≤_};
+ghost use Prim.Native.Nat.{ℕ, _*_, _≤_, _<_};
 ghost use lib.Bits.{bitAnd};
 ghost use lib.Dec.{eqb};
 ghost use Rattle.field.specs.Field.{_⊕_, _⊗_};
-ghost use Rattle.lanes.specs.Lanes.{onto, agree, firstDifference, Doubling};
+ghost use Rattle.lanes.specs.Lanes.{onto, both, agree, firstDifference, Doubling};
 
 // At each place the sum of the two.
 pub fn add(a: &mut [u8], d: &[u8])
@@ -46,6 +46,19 @@ pub fn quadruple_add(a: &mut [u8], d: &[u8])
     }
 }
 
+// At each place sixteen times the first, four times the second, and the third: two steps of row 2 at once.
+pub fn quadruple_add_two(a: &mut [u8], d: &[u8], e: &[u8])
+    ensures { λ _. ⌜ now (a .exit) ≡ onto (λ (x w : ℕ). 16 ⊗ x ⊕ w) (now (a .entry)) (both (λ (y z : ℕ). 4 ⊗ y ⊕ z) (now (d .entry)) (now (e .entry))) ⌝ }
+{
+    let m = shorter(d.len(), e.len());
+    let n = shorter(a.len(), m);
+    let mut q = 0;
+    while q < n {
+        a[q] = sixteen_and_four(a[q], d[q]) ^ e[q];
+        q += 1;
+    }
+}
+
 // At each place eight times the first and the second.
 pub fn eightfold_add(a: &mut [u8], d: &[u8])
     ensures { λ _. ⌜ now (a .exit) ≡ onto (λ (x y : ℕ). 8 ⊗ x ⊕ y) (now (a .entry)) (now (d .entry)) ⌝ }
@@ -77,6 +90,30 @@ pub fn sixteenfold_all(a: &mut [u8])
     let mut q = 0;
     while q < a.len() {
         a[q] = sixteenfold(a[q]);
+        q += 1;
+    }
+}
+
+// At each place half the sum of the two.
+pub fn halve_add(a: &mut [u8], d: &[u8])
+    ensures { λ _. ⌜ now (a .exit) ≡ onto (λ (x y : ℕ). 142 ⊗ (x ⊕ y)) (now (a .entry)) (now (d .entry)) ⌝ }
+{
+    let n = shorter(a.len(), d.len());
+    let mut q = 0;
+    while q < n {
+        a[q] = halve(a[q] ^ d[q]);
+        q += 1;
+    }
+}
+
+// At each place a quarter of the sum of the two.
+pub fn quarter_add(a: &mut [u8], d: &[u8])
+    ensures { λ _. ⌜ now (a .exit) ≡ onto (λ (x y : ℕ). 71 ⊗ (x ⊕ y)) (now (a .entry)) (now (d .entry)) ⌝ }
+{
+    let n = shorter(a.len(), d.len());
+    let mut q = 0;
+    while q < n {
+        a[q] = halve(halve(a[q] ^ d[q]));
         q += 1;
     }
 }
@@ -162,6 +199,13 @@ fn double(x: u8) -> u8
     ((x % 128) * 2) ^ ((x / 128) * 29)
 }
 
+// Half of x: the lowest bit comes back as 142, which is half of 1.
+fn halve(x: u8) -> u8
+    ensures { λ v. ⌜ v ≡ 142 ⊗ x ⌝ }
+{
+    (x / 2) ^ mask(x, 1, 142)
+}
+
 // Eight times x: the three highest bits come back times x^4 + x^3 + x^2 + 1, and none of them wraps.
 fn eightfold(x: u8) -> u8
     ensures { λ v. ⌜ v ≡ 8 ⊗ x ⌝ }
@@ -176,6 +220,24 @@ fn sixteenfold(x: u8) -> u8
 {
     let t = x / 16;
     (((x ^ t) % 16) * 16) ^ t ^ (t * 4) ^ (t * 8)
+}
+
+// Sixteen times x and four times y: the highest bits of both come back together times x^4 + x^3 + x^2 + 1.
+fn sixteen_and_four(x: u8, y: u8) -> u8
+    ensures { λ v. ⌜ v ≡ 16 ⊗ x ⊕ 4 ⊗ y ⌝ }
+{
+    let t = (x / 16) ^ (y / 64);
+    let v = carried(t);
+    let w = ((y % 64) * 4) ^ (v * 4);
+    ((x % 16) * 16) ^ w ^ t
+}
+
+// x^2 + x + 1 times t: four times that and t are t times x^4 + x^3 + x^2 + 1.
+fn carried(t: u8) -> u8
+    requires { ⌜ t < 16 ⌝ }
+    ensures { λ v. ⌜ (v < 64) × (v * 4 ⊕ t ≡ 29 ⊗ t) ⌝ }
+{
+    t ^ (t * 2) ^ (t * 4)
 }
 
 // A byte times each power of two, by which a product is eight masks.

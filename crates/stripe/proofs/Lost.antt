@@ -5,9 +5,11 @@ use mathlib.Core.Logic.{_⊎_, inl, inr}
 use mathlib.Core.List.{List, [], _∷_}
 use Prim.Native.Nat.{ℕ, zero, suc, _+_, _-_, _<_, _≤_}
 use native.Mathlib.Nat.{not-suc-le-zero, le-of-suc-le-suc}
+use native.Mathlib.Numerals.{add-one}
 use native.Mathlib.Omega.{arith}
 use lib.Dec.{ltb, eqb}
-use lib.ListN.{length, getD}
+use lib.ListN.{length, getD, drop, drop-of-length-le}
+use lib.Seq.{drop-cons}
 use borrow.Author.Tests.{lt-ltb, le-ltb, eq-eqb, ne-eqb}
 use Rattle.stripe.specs.Stripe.{among, Ascending}
 use Rattle.stripe.proofs.Places.{below-or-from}
@@ -59,6 +61,21 @@ among-first e es = ap (λ (b : Bool). b || among e es) (eq-eqb e e refl)
 among-more : (c e : ℕ) (ds es : List ℕ) → among c ds ≡ among c es → among c (e ∷ ds) ≡ among c (e ∷ es)
 unfolding among
 among-more c e ds es h = ap (λ (b : Bool). eqb c e || b) h
+
+-- ---- a position looked for in a list, from its i-th entry on
+
+module _ (es : List ℕ) (i c : ℕ) where
+  among-here : i < length es → among c (drop i es) ≡ among c (getD es i 0 ∷ drop (i + 1) es)
+  among-here l = ap (among c) (drop-cons es i 0 l) ∙ ap (λ (n : ℕ). among c (getD es i 0 ∷ drop n es)) (sym (add-one i))
+
+  pub among-found : i < length es → getD es i 0 ≡ c → among c (drop i es) ≡ true
+  among-found l e = among-here l ∙ ap (λ (x : ℕ). among c (x ∷ drop (i + 1) es)) e ∙ among-first c (drop (i + 1) es)
+
+  pub among-turn : i < length es → (getD es i 0 ≡ c → ⊥) → among c (drop i es) ≡ among c (drop (i + 1) es)
+  among-turn l e = among-here l ∙ among-other c (getD es i 0) (drop (i + 1) es) (λ x. e (sym x))
+
+  pub among-none : length es ≤ i → among c (drop i es) ≡ false
+  among-none l = ap (among c) (drop-of-length-le es l) ∙ among-nil c
 
 -- ---- lost data columns
 

@@ -13,6 +13,8 @@ use Rattle.stripe.proofs.column.lent_refusal as lent-refusal
 use Rattle.stripe.proofs.column.lent_refusal.Reads as lent-refusal-reads
 use Rattle.stripe.proofs.column.column as column
 use Rattle.stripe.proofs.column.column.Reads as column-reads
+use Rattle.stripe.proofs.is_lost as is-lost
+use Rattle.stripe.proofs.is_lost.Reads as is-lost-reads
 
 -- a shape is told by its four numbers
 pub same-shape : (s s′ : Shape) → s .k ≡ s′ .k → s .r ≡ s′ .r → s .t ≡ s′ .t → s .l ≡ s′ .l → s ≡ s′
@@ -34,3 +36,7 @@ lent-refusal-unique κs a r r′ s s′ p q = p ∙ sym q
 pub column-unique : (κs : Lfts 1) (a : ArgsD column.signature κs) (r r′ : ResD column.signature κs) (s s′ : AtExit column.ended κs)
     → column-reads.Post κs a r s → column-reads.Post κs a r′ s′ → now r ≡ now r′
 column-unique κs a r r′ s s′ p q = p ∙ sym q
+
+pub is-lost-unique : (κs : Lfts 1) (a : ArgsD is-lost.signature κs) (r r′ : ResD is-lost.signature κs) (s s′ : AtExit is-lost.ended κs)
+    → is-lost-reads.Post κs a r s → is-lost-reads.Post κs a r′ s′ → r ≡ r′
+is-lost-unique κs a r r′ s s′ p q = p ∙ sym q

@@ -3,6 +3,7 @@ pub mod column;
 
 ghost use mathlib.Core.Path.{_≡_};
 ghost use Rattle.stripe.specs.Shape.{markAllowed, lengthAllowed, shapeRefusal};
+ghost use Rattle.stripe.specs.Stripe.{among};
 
 // The numbers of a stripe: data columns, parity columns, the mark (0 for a plain stripe, else the parity count that the
 // stripe is prepared to gain), and the bytes of a column. Values are made by `Shape::new` alone.
@@ -81,4 +82,18 @@ fn length_allowed(t: usize, l: usize) -> bool
         return true;
     }
     l % t == 0
+}
+
+// Whether the position stands in the list.
+pub fn is_lost(lost: &[u16], c: usize) -> bool
+    ensures { λ v. ⌜ v ≡ among c (now (lost .entry)) ⌝ }
+{
+    let mut i = 0;
+    while i < lost.len() {
+        if lost[i] as usize == c {
+            return true;
+        }
+        i += 1;
+    }
+    false
 }

@@ -1,7 +1,4 @@
 use borrow.Author.Needs.{needs}
-use mathlib.Core.Path.{_≡_, ap, _∙_}
-use Prim.Native.Nat.{ℕ}
-use Rattle.field.specs.Field.{gpow}
 use Rattle.field.proofs.Mul.{log-rules}
 use Rattle.field.proofs.Tables.{logarithms}
 use Rattle.field.proofs.logarithm.Statement.{statement}

@@ -1,4 +1,4 @@
--- `stripe::encode::add_piggybacks` meets its contract: the columns before i are parity, the others are rows.
+-- `add_piggybacks` meets its contract: the columns before i are parity, the others are rows.
 use Prim.Native.Nat.{_-_, _≤_}
 use mathlib.Core.Path.{_≡_, refl, ap, _∙_}
 use native.Mathlib.Nat.{le-refl}

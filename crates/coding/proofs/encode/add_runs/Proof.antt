@@ -1,4 +1,4 @@
--- `stripe::encode::add_runs` meets its contract: the runs before j have their piggybacks.
+-- `add_runs` meets its contract: the runs before j have their piggybacks.
 use Prim.Native.Nat.{ℕ, _+_, _*_, _-_, _/_, _≤_}
 use mathlib.Core.Path.{_≡_, refl}
 use native.Mathlib.Nat.{mul-le-mul-right}
@@ -76,7 +76,7 @@ add-row-requires c κs =
     let at = c .before .before .loop in
     let m = a .s .l / a .s .t in (
       known (c .before .before .before .before .before) .data-long,
-      (omega (arith, here t .source, part-length (at .out) (a .i * a .s .l + at .j * m) m (omega (arith, here t))), (omega (arith, at .inv .0, c .before .before .before .before .before .pre .1 .1 .0), here t .row)),
+      (known (c .before .before .before .before .before) .allowed-shape .data-some, (here t .row, omega (arith, here t .source, part-length (at .out) (a .i * a .s .l + at .j * m) m (omega (arith, here t))))),
     )
 
 add-j : tie.Need-add-j Inv-loop μ-loop

@@ -1,4 +1,4 @@
--- `stripe::encode::encode` meets its contract: a refusal leaves the parity as it was.
+-- `encode` meets its contract: a refusal leaves the parity as it was.
 use mathlib.Core.Path.{sym, _∙_}
 use borrow.Author.Needs.{needs}
 use Rattle.coding.proofs.Encoded.{encoded-refused, encoded-done}

@@ -1,4 +1,4 @@
--- `stripe::encode::fill_parity` meets its contract: rows are the parity of a plain stripe, rows and piggybacks of a prepared one.
+-- `fill_parity` meets its contract: rows are the parity of a plain stripe, rows and piggybacks of a prepared one.
 use mathlib.Core.Path.{_≡_, ap, _∙_}
 use native.Mathlib.Omega.{arith}
 use lib.ListN.{length}
@@ -12,7 +12,7 @@ fill-rows-requires : tie.Need-fill-rows-requires
 fill-rows-requires c κs =
     let s = c .before .before .before in
     let f = ready (s .args .s) _ _ (s .pre) in
-    (f .data-long, (f .parity-long, (f .parity-some, f .parity-most)))
+    (f .data-long, (f .data-some, (f .parity-long, (f .parity-some, f .parity-most))))
 
 same-length : tie.Need-same-length
 same-length c = search needs

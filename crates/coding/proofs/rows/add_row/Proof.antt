@@ -1,27 +1,82 @@
--- `add_row` meets its contract: the row is one of two.
+-- `add_row` meets its contract: at the places below b the row is added.
+use Prim.Native.Nat.{_-_, _≤_}
+use mathlib.Core.Path.{refl}
 use native.Mathlib.Omega.{arith}
 use borrow.Author.Needs.{needs}
-use Rattle.coding.proofs.Piggyback.{added-by}
+use Rattle.coding.specs.Rows.{Added}
+use Rattle.coding.proofs.Piggyback.{added-none, added-more, added-all}
 use Rattle.coding.proofs.rows.add_row.Statement.{statement}
 use Rattle.coding.proofs.rows.add_row.Tie as tie
 
-add-row1-requires : tie.Need-add-row1-requires
-add-row1-requires c κs = search needs
+abbrev Inv-loop : tie.InvT-loop
+Inv-loop «data» k l j from run₀ m b₀ run b = (b ≤ m) × Added «data» k l j from 0 b run₀ run
 
-same-length : tie.Need-same-length
+abbrev μ-loop : tie.MeasureT-loop
+μ-loop «data» k l j from run₀ m b₀ run b = m - b
+
+loop-holds : tie.Need-loop-holds Inv-loop μ-loop
+loop-holds c = (search needs, added-none _ _ _ _ _ _)
+
+sub-loop : tie.Need-sub-loop Inv-loop μ-loop
+sub-loop c = search needs
+
+add-add-block : tie.Need-add-add-block Inv-loop μ-loop
+add-add-block c = search needs
+
+add-block-requires : tie.Need-add-block-requires Inv-loop μ-loop
+add-block-requires c κs = search needs
+
+add-b : tie.Need-add-b Inv-loop μ-loop
+add-b c = search needs
+
+loop-less : tie.Need-loop-less Inv-loop μ-loop
+loop-less c = search needs
+
+loop-again : tie.Need-loop-again Inv-loop μ-loop
+loop-again c = (search needs, added-more _ _ _ _ _ _ 64 _ _ _ _ refl (c .before .before .before .before .before .loop .inv .1) (c .before .before .add-block .ensures))
+
+add-add-block-2 : tie.Need-add-add-block-2 Inv-loop μ-loop
+add-add-block-2 c = search needs
+
+sub-add-block : tie.Need-sub-add-block Inv-loop μ-loop
+sub-add-block c = search needs
+
+add-block-requires-2 : tie.Need-add-block-requires-2 Inv-loop μ-loop
+add-block-requires-2 c κs = search needs
+
+same-length : tie.Need-same-length Inv-loop μ-loop
 same-length c = search needs
 
-returns : tie.Need-returns
-returns c = added-by _ _ _ 1 _ _ _ _ _ _ (omega arith) (c .before .before .add-row1 .ensures)
+returns : tie.Need-returns Inv-loop μ-loop
+returns c =
+    let at = c .before .before .before .before .before .before .loop in
+    added-more _ _ _ _ _ (at .b) _ _ _ _ _ (omega arith) (at .inv .1) (c .before .before .add-block2 .ensures)
 
-add-row2-requires : tie.Need-add-row2-requires
-add-row2-requires c κs = search needs
-
-same-length-2 : tie.Need-same-length-2
+same-length-2 : tie.Need-same-length-2 Inv-loop μ-loop
 same-length-2 c = search needs
 
-returns-2 : tie.Need-returns-2
-returns-2 c = added-by _ _ _ 2 _ _ _ _ _ _ (omega arith) (c .before .before .add-row2 .ensures)
+returns-2 : tie.Need-returns-2 Inv-loop μ-loop
+returns-2 c =
+    let at = c .before .before .loop in
+    added-all _ _ _ _ _ (at .b) _ _ _ (omega (arith, c .if1 .left)) (at .inv .1)
 
 pub add-row-spec : {M : Type 1} → statement M
-add-row-spec = tie.close (tie.spec add-row1-requires same-length returns add-row2-requires same-length-2 returns-2)
+add-row-spec =
+    tie.close
+    (tie.spec
+    Inv-loop
+    μ-loop
+    loop-holds
+    sub-loop
+    add-add-block
+    add-block-requires
+    add-b
+    loop-less
+    loop-again
+    add-add-block-2
+    sub-add-block
+    add-block-requires-2
+    same-length
+    returns
+    same-length-2
+    returns-2)

@@ -1,37 +1,54 @@
--- `stripe::rows::block2` meets its contract: each array holds its row of the columns from number i on.
+-- `block2` meets its contract: each array holds its row of the columns from number i on.
 use Prim.Native.Nat.{suc, _+_, _*_, _-_, _≤_}
 use mathlib.Core.Path.{_≡_, refl}
 use native.Mathlib.Omega.{arith}
 use lib.ListN.{length}
 use borrow.Author.Needs.{needs}
 use Rattle.field.specs.Bytes.{Bytes}
-use Rattle.coding.proofs.Horner.{Held, start, turn, done, column-before, step-0, step-1}
+use Rattle.coding.proofs.Horner.{Held, first, turn, done, column-before, step-0, step-1}
 use Rattle.coding.proofs.rows.block2.Statement.{statement}
 use Rattle.coding.proofs.rows.block2.Tie as tie
 
 abbrev Inv-loop : tie.InvT-loop
-Inv-loop «data» k l from n row0₀ row1₀ i₀ o₀ row0 row1 i o = (i ≤ k) × (o ≡ i * l) × Held «data» l from n 64 0 o (k - i) row0 × Held «data» l from n 64 1 o (k - i) row1
+Inv-loop «data» k l from i₀ o₀ row0₀ row1₀ i o row0 row1 = (i ≤ k) × (o ≡ i * l) × Held «data» l from 64 64 0 o (k - i) row0 × Held «data» l from 64 64 1 o (k - i) row1
 
 abbrev μ-loop : tie.MeasureT-loop
-μ-loop «data» k l from n row0₀ row1₀ i₀ o₀ row0 row1 i o = i
+μ-loop «data» k l from i₀ o₀ row0₀ row1₀ i o row0 row1 = i
 
-loop-holds : tie.Need-loop-holds Inv-loop μ-loop
-loop-holds c = (search needs, search needs, start _ _ _ _ _ _ _ _ (omega arith) (omega arith), start _ _ _ _ _ _ _ _ (omega arith) (omega arith))
+last-column : (c : tie.Start Inv-loop μ-loop)
+    → let d = length (c .args .«data» .now) in (c .args .l ≤ d) × ((d ≤ d) × (d - c .args .l ≡ (c .args .k - 1) * c .args .l))
+last-column c = column-before _ (c .args .k) (c .args .l) (c .args .k) _ (c .pre .0) (omega arith) (c .pre .1 .0) (c .pre .0)
+
+before : (c : tie.In-loop Inv-loop μ-loop)
+    → let a = c .before .before .before .before .args in
+    let o = c .before .loop .o in (a .l ≤ o) × ((o ≤ length (a .«data» .now)) × (o - a .l ≡ (c .before .loop .i - 1) * a .l))
+before c =
+    let s = c .before .before .before .before in
+    let at = c .before .loop in
+    column-before _ (s .args .k) (s .args .l) (at .i) (at .o) (s .pre .0) (at .inv .0) (c .loop-test .taken) (at .inv .1)
 
 sub-i : tie.Need-sub-i Inv-loop μ-loop
 sub-i c = search needs
 
-before : (c : tie.In-loop Inv-loop μ-loop)
-    → (c .before .before .before .args .l ≤ c .before .loop .o)
-    × ((c .before .loop .o ≤ length (c .before .before .before .args .«data» .now))
-    × (c .before .loop .o - c .before .before .before .args .l ≡ (c .before .loop .i - 1) * c .before .before .before .args .l))
-before c =
-    let a = c .before .before .before .args in
-    let at = c .before .loop in
-    column-before _ (a .k) (a .l) (at .i) (at .o) (c .before .before .before .pre .0) (at .inv .0) (c .loop-test .taken) (at .inv .1)
-
 sub-o : tie.Need-sub-o Inv-loop μ-loop
-sub-o c = before c .0
+sub-o c = last-column (c .before) .0
+
+add-last : tie.Need-add-last Inv-loop μ-loop
+add-last c = omega (arith, last-column (c .before) .0)
+
+last-requires : tie.Need-last-requires Inv-loop μ-loop
+last-requires c κs = (omega (arith, last-column (c .before) .0), search needs)
+
+loop-holds : tie.Need-loop-holds Inv-loop μ-loop
+loop-holds c =
+    let known : Bytes (c .before .before .args .«data» .now) = λ i. c .before .shared-slice-known .given i .fits in
+    (search needs, last-column (c .before .before) .1 .1, first _ _ _ _ _ 0 _ _ _ known (omega arith) (omega arith) (c .last .ensures), first _ _ _ _ _ 1 _ _ _ known (omega arith) (omega arith) (c .last .ensures))
+
+sub-i-2 : tie.Need-sub-i-2 Inv-loop μ-loop
+sub-i-2 c = search needs
+
+sub-o-2 : tie.Need-sub-o-2 Inv-loop μ-loop
+sub-o-2 c = before c .0
 
 add-s : tie.Need-add-s Inv-loop μ-loop
 add-s c = omega (arith, before c .0, before c .1 .0)
@@ -67,11 +84,11 @@ loop-again : tie.Need-loop-again Inv-loop μ-loop
 loop-again c =
     let t = c .before .before .before .before .before .before .before in
     let at = t .before .loop in
-    let a = t .before .before .before .args in
+    let a = t .before .before .before .before .args in
     let b = before t in
-    let fits : at .o - a .l + a .from + a .n ≤ length (a .«data» .now) = omega (arith, b .0, b .1 .0) in
+    let fits : at .o - a .l + a .from + 64 ≤ length (a .«data» .now) = omega (arith, b .0, b .1 .0) in
     let more : a .k - (at .i - 1) ≡ suc (a .k - at .i) = omega (arith, at .inv .0, t .loop-test .taken) in
-    let known : Bytes (a .«data» .now) = λ i. t .before .before .shared-slice-known .given i .fits in (
+    let known : Bytes (a .«data» .now) = λ i. t .before .before .before .shared-slice-known .given i .fits in (
       search needs,
       b .1 .1,
       turn _ _ _ _ _ 0 _ _ _ _ _ _ step-0 known (omega arith) (b .0) fits more (at .inv .2) (c .before .before .before .before .add .ensures),
@@ -87,9 +104,13 @@ block2-spec =
     (tie.spec
     Inv-loop
     μ-loop
-    loop-holds
     sub-i
     sub-o
+    add-last
+    last-requires
+    loop-holds
+    sub-i-2
+    sub-o-2
     add-s
     add-e
     sub-d

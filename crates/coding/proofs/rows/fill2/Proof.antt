@@ -1,4 +1,4 @@
--- `stripe::rows::fill2` meets its contract: at the places below b the rows are there.
+-- `fill2` meets its contract: at the places below b the rows are there.
 use Prim.Native.Nat.{_*_, _-_, _≤_}
 use mathlib.Core.Path.{_≡_}
 use native.Mathlib.Omega.{arith}
@@ -18,11 +18,15 @@ abbrev μ-loop : tie.MeasureT-loop
 loop-holds : tie.Need-loop-holds Inv-loop μ-loop
 loop-holds c = (search needs, search needs, λ j p h less. absurd (not-suc-le-zero less))
 
-sub-loop : tie.Need-sub-loop Inv-loop μ-loop
-sub-loop c = search needs
+block-at-requires : tie.Need-block-at-requires Inv-loop μ-loop
+block-at-requires c κs = search needs
 
 fill-block2-requires : tie.Need-fill-block2-requires Inv-loop μ-loop
-fill-block2-requires c κs = (c .before .before .before .before .before .pre .0, (search needs, (search needs, (c .before .before .loop .inv .1, c .before .before .loop .inv .2))))
+fill-block2-requires c κs =
+    let s = c .before .before .before .before .before .before in
+    let at = c .before .before .before .loop in
+    let v = c .before .block-at .ensures in
+    (s .pre .0, (s .pre .1 .0, (v .1 .1, (at .inv .1, λ j p h less. at .inv .2 j p h (omega (arith, v .0))))))
 
 add-b : tie.Need-add-b Inv-loop μ-loop
 add-b c = search needs
@@ -31,19 +35,13 @@ loop-less : tie.Need-loop-less Inv-loop μ-loop
 loop-less c = search needs
 
 loop-again : tie.Need-loop-again Inv-loop μ-loop
-loop-again c = (search needs, c .before .before .fill-block2 .ensures .0, c .before .before .fill-block2 .ensures .1)
-
-sub-fill-block2 : tie.Need-sub-fill-block2 Inv-loop μ-loop
-sub-fill-block2 c = search needs
-
-fill-block2-requires-2 : tie.Need-fill-block2-requires-2 Inv-loop μ-loop
-fill-block2-requires-2 c κs = (c .before .before .before .before .before .pre .0, (search needs, (search needs, (c .before .before .loop .inv .1, c .before .before .loop .inv .2))))
+loop-again c = (c .before .before .before .before .block-at .ensures .1 .1, c .before .before .fill-block2 .ensures .0, c .before .before .fill-block2 .ensures .1)
 
 same-length : tie.Need-same-length Inv-loop μ-loop
 same-length c = search needs
 
 returns : tie.Need-returns Inv-loop μ-loop
-returns c = λ j p h less. c .before .before .fill-block22 .ensures .1 j p h (omega arith)
+returns c = λ j p h less. c .before .loop .inv .2 j p h (omega (arith, c .loop-test .left))
 
 pub fill2-spec : {M : Type 1} → statement M
 fill2-spec =
@@ -52,12 +50,10 @@ fill2-spec =
     Inv-loop
     μ-loop
     loop-holds
-    sub-loop
+    block-at-requires
     fill-block2-requires
     add-b
     loop-less
     loop-again
-    sub-fill-block2
-    fill-block2-requires-2
     same-length
     returns)

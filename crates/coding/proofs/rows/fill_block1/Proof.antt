@@ -1,12 +1,12 @@
--- `stripe::rows::fill_block1` meets its contract: each block extends its row.
+-- `fill_block1` meets its contract: the block extends its row.
 use mathlib.Core.Path.{_∙_}
 use borrow.Author.Needs.{needs}
 use Rattle.coding.proofs.Filled.{filled-1}
 use Rattle.coding.proofs.rows.fill_block1.Statement.{statement}
 use Rattle.coding.proofs.rows.fill_block1.Tie as tie
 
-block1-requires : tie.Need-block1-requires
-block1-requires c κs = search needs
+row-block-requires : tie.Need-row-block-requires
+row-block-requires c κs = search needs
 
 put-requires : tie.Need-put-requires
 put-requires c κs = search needs
@@ -16,9 +16,9 @@ same-length c = search needs
 
 returns : tie.Need-returns
 returns c =
-    let h = c .before .before .before .before .before .before .before .before .before .pre in
-    let v = c .before .before .before .before .before .before .block1 .ensures in
+    let h = c .before .before .before .before .before .before .before .before .pre in
+    let v = c .before .before .before .before .before .row-block .ensures in
     (c .before .before .put .ensures .long ∙ h .1 .1 .1 .0, filled-1 _ _ _ _ _ (h .1 .1 .0) _ _ _ v (c .before .before .put .ensures) (h .1 .1 .1 .1))
 
 pub fill-block1-spec : {M : Type 1} → statement M
-fill-block1-spec = tie.close (tie.spec block1-requires put-requires same-length returns)
+fill-block1-spec = tie.close (tie.spec row-block-requires put-requires same-length returns)

@@ -1,4 +1,4 @@
--- `stripe::rows::fill_block2` meets its contract: each block extends its row.
+-- `fill_block2` meets its contract: each block extends its row.
 use mathlib.Core.Path.{_∙_}
 use borrow.Author.Needs.{needs}
 use Rattle.coding.proofs.Filled.{filled-2}

@@ -1,4 +1,4 @@
--- `stripe::rows::put` meets its contract: the part comes back with the first bytes of the block.
+-- `put` meets its contract: the part comes back with the first bytes of the block.
 use native.Mathlib.Omega.{arith}
 use borrow.Author.Needs.{needs}
 use Rattle.coding.proofs.Filled.{put-copied}

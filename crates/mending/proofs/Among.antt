@@ -1,5 +1,5 @@
 -- A record's positions: which are among them, and which of them are data columns.
-use Prim.Native.Nat.{ℕ, zero, suc, _+_, _≤_, _<_}
+use Prim.Native.Nat.{ℕ, zero, suc, _≤_, _<_}
 use mathlib.Core.Path.{_≡_, refl, sym, ap, _∙_}
 use mathlib.Core.Bool.{Bool, true, false, cond, _||_}
 use mathlib.Core.List.{List, [], _∷_}
@@ -9,7 +9,7 @@ use lib.Dec.{eqb}
 use lib.ListN.{length, getD, take}
 use borrow.Author.Tests.{eq-eqb, ne-eqb}
 use Rattle.stripe.specs.Stripe.{among, Ascending}
-use Rattle.stripe.proofs.Lost.{lostData, rowLost, lost-data-nil, lost-data-below, lost-data-from}
+use Rattle.stripe.proofs.Lost.{lostData, lost-data-nil, lost-data-below, lost-data-from}
 use Rattle.stripe.proofs.Survivors.{firstRow, rowStep}
 
 or-true : (b : Bool) → (b || true) ≡ true

@@ -1,17 +1,17 @@
 -- With nothing lost, mending is the check: the only stripe that agrees with all columns is the stripe itself.
-use Prim.Native.Nat.{ℕ, _+_, _-_, _*_, _<_}
-use mathlib.Core.Path.{_≡_, refl, sym, ap, _∙_, subst}
+use Prim.Native.Nat.{ℕ, _+_, _-_, _<_}
+use mathlib.Core.Path.{_≡_, refl, sym, _∙_, subst}
 use mathlib.Core.List.{List, [], _∷_, _++_}
 use native.Mathlib.Omega.{arith}
 use native.Mathlib.Nat.{add-mul, suc-ne-zero}
 use lib.Dec.{lit<}
-use lib.ListN.{length, getD, take, drop, take-append-drop, length-drop, List·getD-eq-default}
+use lib.ListN.{length, take, drop, take-append-drop, length-drop, List·getD-eq-default}
 use lib.Seq.{take-all, length-take-le, getD-take, getD-drop}
 use mathlib.Core.Logic.{⊎-elim, inl, inr}
 use Rattle.field.specs.Bytes.{Bytes}
 use Rattle.stripe.specs.declared.Shape.{Shape}
 use Rattle.stripe.specs.Shape.{shapeRefusal, columns, dataLength, parityLength, stripeLength}
-use Rattle.stripe.specs.Stripe.{among, Codeword, Agree}
+use Rattle.stripe.specs.Stripe.{among, Codeword}
 use Rattle.stripe.proofs.Places.{by-places, below-or-from}
 use Rattle.coding.specs.Check.{firstWrong}
 use Rattle.coding.specs.declared.check.Wrong.{Wrong}

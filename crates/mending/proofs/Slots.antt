@@ -1,24 +1,73 @@
 -- Slots: what each turn of the loops over them adds, and why they solve the sums at every place.
 use Prim.Native.Nat.{ℕ, zero, suc, _+_, _*_, _-_, _≤_, _<_}
 use mathlib.Core.Path.{_≡_, refl, sym, ap, ap₂, subst, _∙_}
-use mathlib.Core.List.{List, [], _∷_, _++_}
+use mathlib.Core.List.{List, [], _∷_}
 use mathlib.Core.Logic.{_⊎_, inl, inr}
-use native.Mathlib.Nat.{le-of-suc-le-suc, not-suc-le-zero, suc-inj, suc-ne-zero}
+use native.Mathlib.Nat.{le-of-suc-le-suc, not-suc-le-zero, suc-inj, suc-ne-zero, mul-le-mul-right, add-mul}
 use native.Mathlib.Numerals.{add-one}
 use native.Mathlib.Omega.{arith}
-use lib.ListN.{length, getD, set, take, drop, replicate, getD-replicate, length-drop}
-use lib.Seq.{getD-take, getD-drop, ext-getD, drop-cons, length-take-le, take-all, getD-set-same, getD-set-other}
-use Rattle.field.specs.Field.{_⊕_, _⊗_, inverseOf, power}
-use Rattle.field.specs.Solve.{solve, moment, apart, cleared}
-use Rattle.field.proofs.Xor.{add-zero, zero-add, sums}
-use Rattle.field.proofs.Mul.{mul-assoc, one-mul, power-zero}
-use Rattle.field.proofs.Solve.{solve-same, solve-bytes, solve-length, apart-length}
+use lib.ListN.{length, getD, set, take, drop, length-drop}
+use lib.Seq.{getD-take, ext-getD, length-take-le, take-all, getD-set-same, getD-set-other}
+use borrow.Rule.Slice.PartMut.{putMid}
+use Rattle.field.specs.Field.{_⊕_, _⊗_, inverseOf}
 use Rattle.field.specs.Bytes.{Bytes}
+use Rattle.field.specs.Solve.{solve, moment, apart, cleared}
+use Rattle.field.proofs.Xor.{add-zero, sums}
+use Rattle.field.proofs.Mul.{mul-assoc, zero-mul, one-mul, add-mul as product-sum, power-zero}
+use Rattle.field.proofs.Solve.{solve-same, solve-bytes, solve-length, apart-length}
 use Rattle.lanes.specs.Lanes.{onto}
-use Rattle.lanes.proofs.Onto.{onto-length, onto-at, onto-past}
+use Rattle.lanes.proofs.Onto.{onto-length, onto-at}
+use Rattle.lanes.proofs.Parts.{part-length, part-at, back-length, back-inside, back-outside}
 use Rattle.stripe.proofs.Places.{below-or-from}
-use Rattle.mending.specs.Slots.{slotsAt, weighted, Combined, Cleared, SetApart, First, Solved}
-use Rattle.mending.proofs.Parts.{onto-part, PartOnto, Back}
+use Rattle.mending.specs.Slots.{slotsAt, weighted, Outside, Mixed, Sources, Gathered, Spaced, OffSlots, Cleared, SetApart, First, Solved}
+
+-- ---- one slot onto another
+
+onto-same : (f g : ℕ → ℕ → ℕ) (xs ys : List ℕ) → ((x i : ℕ) → f x (getD ys i 0) ≡ g x (getD ys i 0)) → onto f xs ys ≡ onto g xs ys
+unfolding onto
+onto-same f g [] ys h = refl
+onto-same f g (x ∷ xs) [] h = refl
+onto-same f g (x ∷ xs) (y ∷ ys) h = ap₂ (λ (z : ℕ) (zs : List ℕ). z ∷ zs) (h x 0) (onto-same f g xs ys (λ x i. h x (suc i)))
+
+pub mixed-made : (a b n c : ℕ) (xs t u zs : List ℕ) → a + n ≤ length xs → b + n ≤ length xs → n ≤ length t
+    → u ≡ onto (λ (x y : ℕ). y) t (take (b + n - b) (drop b xs))
+    → zs ≡ onto (λ (x y : ℕ). x ⊕ c ⊗ y) (take (a + n - a) (drop a xs)) u → Mixed a b n c xs (putMid a (a + n - a) xs zs)
+mixed-made a b n c xs t u zs ha hb ht eu ez =
+    record { long = back-length xs zs a n long ha; on = on; off = back-outside xs zs a n long ha }
+  where
+    long : length zs ≡ n
+    long = ap length ez ∙ onto-length _ (take (a + n - a) (drop a xs)) u ∙ part-length xs a n ha
+
+    u-long : length u ≡ length t
+    u-long = ap length eu ∙ onto-length _ t (take (b + n - b) (drop b xs))
+
+    on : (q : ℕ) → q < n → getD (putMid a (a + n - a) xs zs) (a + q) 0 ≡ getD xs (a + q) 0 ⊕ c ⊗ getD xs (b + q) 0
+    on q h =
+        back-inside xs zs a n long ha q h ∙ ap (λ (l : List ℕ). getD l q 0) ez
+        ∙ onto-at _ (take (a + n - a) (drop a xs)) u q (omega (arith, part-length xs a n ha)) (omega (arith, u-long))
+        ∙ ap₂ (λ (x y : ℕ). x ⊕ c ⊗ y) (part-at xs a n q h)
+        (ap (λ (l : List ℕ). getD l q 0) eu
+        ∙ onto-at _ t (take (b + n - b) (drop b xs)) q (omega arith) (omega (arith, part-length xs b n hb)) ∙ part-at xs b n q h)
+
+-- c is 0, or 1
+pub mixed-none : (a b n c : ℕ) (xs : List ℕ) → c ≡ 0 → Mixed a b n c xs xs
+mixed-none a b n c xs e =
+    record {
+      long = refl;
+      on = λ q h. sym (ap (λ (z : ℕ). getD xs (a + q) 0 ⊕ z ⊗ getD xs (b + q) 0) e ∙ ap (λ (z : ℕ). getD xs (a + q) 0 ⊕ z) (zero-mul _) ∙ add-zero _);
+      off = λ i h. refl;
+    }
+
+pub mixed-one : (a b n c : ℕ) (xs t u zs : List ℕ) → c ≡ 1 → Bytes u → a + n ≤ length xs → b + n ≤ length xs → n ≤ length t
+    → u ≡ onto (λ (x y : ℕ). y) t (take (b + n - b) (drop b xs))
+    → zs ≡ onto (λ (x y : ℕ). x ⊕ y) (take (a + n - a) (drop a xs)) u → Mixed a b n c xs (putMid a (a + n - a) xs zs)
+mixed-one a b n c xs t u zs ec bu ha hb ht eu ez = mixed-made a b n c xs t u zs ha hb ht eu (ez ∙ same (take (a + n - a) (drop a xs)) u bu)
+  where
+    by-one : (x y : ℕ) → y < 256 → x ⊕ y ≡ x ⊕ c ⊗ y
+    by-one x y h = sym (ap (λ (z : ℕ). x ⊕ z ⊗ y) ec ∙ ap (λ (z : ℕ). x ⊕ z) (one-mul y h))
+
+    same : (xs ys : List ℕ) → Bytes ys → onto (λ (x y : ℕ). x ⊕ y) xs ys ≡ onto (λ (x y : ℕ). x ⊕ c ⊗ y) xs ys
+    same xs ys h = onto-same _ _ xs ys (λ x i. by-one x (getD ys i 0) (h i))
 
 -- ---- weighted sums
 
@@ -41,75 +90,107 @@ weighted-cons [] f v h = absurd (omega arith)
 weighted-cons (w ∷ ws) f zero h = refl
 weighted-cons (w ∷ ws) f (suc v) h = weighted-cons ws f v (omega arith)
 
--- a holds, beside what a₀ held, the slots from v on by their weights
-pub record Adding (ws xs a₀ a : List ℕ) (v : ℕ) : Type 0 where
-  pub long : length a ≡ 64
-  pub at : (q : ℕ) → q < 64 → getD a q 0 ≡ getD a₀ q 0 ⊕ weighted (drop v ws) (λ u. slotsAt xs q (v + u))
+-- ys holds, beside what xs held, the slots from number v on by their weights
+pub record Gathering (ws : List ℕ) (a b d n : ℕ) (xs ys : List ℕ) (v : ℕ) : Type 0 where
+  pub long : length ys ≡ length xs
+  pub on : (q : ℕ) → q < n → getD ys (a + q) 0 ≡ getD xs (a + q) 0 ⊕ weighted (drop v ws) (λ u. slotsAt xs b d q (v + u))
+  pub off : (i : ℕ) → Outside a n i → getD ys i 0 ≡ getD xs i 0
 
-pub adding-start : (ws xs a : List ℕ) → length a ≡ 64 → Adding ws xs a a (length ws)
-adding-start ws xs a h =
-    record { long = h; at = λ q l. sym (ap (λ (x : ℕ). getD a q 0 ⊕ x) (weighted-past ws _ (length ws) (omega arith)) ∙ add-zero _) }
+pub gathering-start : (ws : List ℕ) (a b d n : ℕ) (xs : List ℕ) → Gathering ws a b d n xs xs (length ws)
+gathering-start ws a b d n xs =
+    record {
+      long = refl;
+      on = λ q l. sym (ap (λ (x : ℕ). getD xs (a + q) 0 ⊕ x) (weighted-past ws _ (length ws) (omega arith)) ∙ add-zero _);
+      off = λ i h. refl;
+    }
 
 regroup : (a w x y : ℕ) → a ⊕ y ⊕ w ⊗ x ≡ a ⊕ (w ⊗ x ⊕ y)
 regroup a w x y = simp sums
 
-pub adding-turn : (ws xs a₀ a b : List ℕ) (n v w : ℕ) → n ≡ v + 1 → v < length ws → length ws * 64 ≤ length xs → Adding ws xs a₀ a n
-    → w ≡ getD ws v 0 → b ≡ onto (λ (x y : ℕ). x ⊕ w ⊗ y) a (take (v * 64 + 64 - v * 64) (drop (v * 64) xs)) → Adding ws xs a₀ b v
-adding-turn ws xs a₀ a b n v w en hv fits t ew is =
-    record { long = ap length is ∙ onto-length _ a _ ∙ t .long; at = at }
+pub gathering-turn : (ws : List ℕ) (a b d n : ℕ) (xs ys zs : List ℕ) (m v len : ℕ) → m ≡ v + 1 → v < length ws → Sources (length ws) a b d n len
+    → Gathering ws a b d n xs ys m → Mixed a (b + v * d) n (getD ws v 0) ys zs → Gathering ws a b d n xs zs v
+gathering-turn ws a b d n xs ys zs m v len em hv s t x =
+    record { long = x .long ∙ t .long; on = on; off = λ i h. x .off i h ∙ t .off i h }
   where
-    at : (q : ℕ) → q < 64 → getD b q 0 ≡ getD a₀ q 0 ⊕ weighted (drop v ws) (λ u. slotsAt xs q (v + u))
-    at q l =
-        onto-part (λ (x y : ℕ). x ⊕ w ⊗ y) a xs b (v * 64) (v * 64 + 64) q (omega arith) (omega arith) is (omega arith) (omega (arith, t .long))
-        ∙ ap₂ (λ (x y : ℕ). x ⊕ y ⊗ getD xs (v * 64 + q) 0) (t .at q l) ew
-        ∙ regroup (getD a₀ q 0) (getD ws v 0) (getD xs (v * 64 + q) 0) _
-        ∙ ap₂ (λ (x y : ℕ). getD a₀ q 0 ⊕ (getD ws v 0 ⊗ x ⊕ y)) (ap (slotsAt xs q) (omega arith))
-        (ap (λ (m : ℕ). weighted (drop m ws) (λ u. slotsAt xs q (n + u))) (en ∙ add-one v)
-        ∙ weighted-same (drop (suc v) ws) (λ u. slotsAt xs q (n + u)) (λ u. slotsAt xs q (v + suc u)) (λ u h. ap (slotsAt xs q) (omega arith)))
-        ∙ ap (λ (x : ℕ). getD a₀ q 0 ⊕ x) (sym (weighted-cons ws (λ u. slotsAt xs q (v + u)) v hv))
+    on : (q : ℕ) → q < n → getD zs (a + q) 0 ≡ getD xs (a + q) 0 ⊕ weighted (drop v ws) (λ u. slotsAt xs b d q (v + u))
+    on q l =
+        x .on q l
+        ∙ ap₂ (λ (y z : ℕ). y ⊕ getD ws v 0 ⊗ z) (t .on q l) (t .off (b + v * d + q) (s .apart v q hv l))
+        ∙ regroup (getD xs (a + q) 0) (getD ws v 0) (slotsAt xs b d q v) _
+        ∙ ap₂ (λ (y z : ℕ). getD xs (a + q) 0 ⊕ (getD ws v 0 ⊗ y ⊕ z)) (ap (slotsAt xs b d q) (omega arith))
+        (ap (λ (k : ℕ). weighted (drop k ws) (λ u. slotsAt xs b d q (m + u))) (em ∙ add-one v)
+        ∙ weighted-same (drop (suc v) ws) (λ u. slotsAt xs b d q (m + u)) (λ u. slotsAt xs b d q (v + suc u)) (λ u h. ap (slotsAt xs b d q) (omega arith)))
+        ∙ ap (λ (y : ℕ). getD xs (a + q) 0 ⊕ y) (sym (weighted-cons ws (λ u. slotsAt xs b d q (v + u)) v hv))
 
-pub adding-done : (ws xs a₀ a : List ℕ) (v : ℕ) → v ≤ 0 → Adding ws xs a₀ a v → Combined ws xs a₀ a
-adding-done ws xs a₀ a zero h t =
-    record { long = t .long; at = λ q l. t .at q l ∙ ap (λ (x : ℕ). getD a₀ q 0 ⊕ x) (weighted-same ws _ (slotsAt xs q) (λ u m. ap (slotsAt xs q) (omega arith))) }
-adding-done ws xs a₀ a (suc v) h t = absurd (omega arith)
+pub gathering-done : (ws : List ℕ) (a b d n : ℕ) (xs ys : List ℕ) (v : ℕ) → v ≤ 0 → Gathering ws a b d n xs ys v → Gathered ws a b d n xs ys
+gathering-done ws a b d n xs ys zero h t =
+    record {
+      long = t .long;
+      on = λ q l.
+          t .on q l ∙ ap (λ (x : ℕ). getD xs (a + q) 0 ⊕ x) (weighted-same ws _ (slotsAt xs b d q) (λ u m. ap (slotsAt xs b d q) (omega arith)));
+      off = t .off;
+    }
+gathering-done ws a b d n xs ys (suc v) h t = absurd (omega arith)
+
+-- ---- slots apart
+
+-- a place of one slot stands outside another
+pub slot-off : (a d n u v q : ℕ) → (u ≡ v → ⊥) → q < n → n ≤ d → Outside (a + v * d) n (a + u * d + q)
+slot-off a d n u v q ne h k = go (below-or-from u v)
+  where
+    go : (u < v) ⊎ (v ≤ u) → Outside (a + v * d) n (a + u * d + q)
+    go (inl l) = inl (omega (arith, mul-le-mul-right d l, add-mul u 1 d))
+    go (inr l) = inr (omega (arith, mul-le-mul-right d (later v u ne l), add-mul v 1 d))
+      where
+        later : (v u : ℕ) → (u ≡ v → ⊥) → v ≤ u → v < u
+        later v u ne l = pick (below-or-from v u)
+          where
+            pick : (v < u) ⊎ (u ≤ v) → v < u
+            pick (inl m) = m
+            pick (inr m) = absurd (ne (omega arith))
 
 -- ---- clearing
 
--- the slots from u on have c times the slot before added
-pub record Clearing (c : ℕ) (xs ys : List ℕ) (u : ℕ) : Type 0 where
+-- the slots from number u on have c times the slot before added
+pub record Clearing (c e a d n : ℕ) (xs ys : List ℕ) (u : ℕ) : Type 0 where
   pub long : length ys ≡ length xs
-  pub below : (i : ℕ) → i < u * 64 → getD ys i 0 ≡ getD xs i 0
-  pub from : (i : ℕ) → u * 64 ≤ i → i < length xs → getD ys i 0 ≡ getD xs i 0 ⊕ c ⊗ getD xs (i - 64) 0
+  pub next : (q v : ℕ) → q < n → u ≤ v + 1 → v + 1 < e → slotsAt ys a d q (v + 1) ≡ slotsAt xs a d q (v + 1) ⊕ c ⊗ slotsAt xs a d q v
+  pub off : (i : ℕ) → OffSlots u e a d n i → getD ys i 0 ≡ getD xs i 0
 
-pub clearing-start : (c : ℕ) (xs : List ℕ) (u : ℕ) → length xs ≤ u * 64 → Clearing c xs xs u
-clearing-start c xs u h = record { long = refl; below = λ i l. refl; from = λ i l m. absurd (omega arith) }
+pub clearing-start : (c e a d n : ℕ) (xs : List ℕ) → Clearing c e a d n xs xs e
+clearing-start c e a d n xs = record { long = refl; next = λ q v hq h k. absurd (omega arith); off = λ i h. refl }
 
-pub clearing-turn : (c : ℕ) (xs ys zs t : List ℕ) (n u : ℕ) → n ≡ u + 1 → 0 < u → (u + 1) * 64 ≤ length xs → Clearing c xs ys n
-    → length t ≡ 64 → ((q : ℕ) → q < 64 → getD t q 0 ≡ getD ys (u * 64 - 64 + q) 0)
-    → PartOnto (λ (x y : ℕ). x ⊕ c ⊗ y) (u * 64) (u * 64 + 64 - u * 64) ys t zs → Clearing c xs zs u
-clearing-turn c xs ys zs t n u en hu fits h ht copied p =
-    record {
-      long = p .long ∙ h .long;
-      below = λ i l. p .off i (inl l) ∙ h .below i (omega arith);
-      from = from;
-    }
+pub clearing-turn : (c e a d n : ℕ) (xs ys zs : List ℕ) (m u : ℕ) → m ≡ u + 1 → 0 < u → u < e → n ≤ d → Clearing c e a d n xs ys m
+    → Mixed (a + u * d) (a + u * d - d) n c ys zs → Clearing c e a d n xs zs u
+clearing-turn c e a d n xs ys zs m u em hu he wide t x =
+    record { long = x .long ∙ t .long; next = next; off = off }
   where
-    from : (i : ℕ) → u * 64 ≤ i → i < length xs → getD zs i 0 ≡ getD xs i 0 ⊕ c ⊗ getD xs (i - 64) 0
-    from i l m = go (i - u * 64) (omega arith)
-      where
-        go : (q : ℕ) → i ≡ u * 64 + q → getD zs i 0 ≡ getD xs i 0 ⊕ c ⊗ getD xs (i - 64) 0
-        go q e = case (below-or-from q 64)
-          where
-            case : (q < 64) ⊎ (64 ≤ q) → getD zs i 0 ≡ getD xs i 0 ⊕ c ⊗ getD xs (i - 64) 0
-            case (inl w) =
-                ap (λ (x : ℕ). getD zs x 0) e ∙ p .on q (omega arith)
-                ∙ ap₂ (λ (x y : ℕ). x ⊕ c ⊗ y) (ap (λ (x : ℕ). getD ys x 0) (sym e) ∙ h .below i (omega arith))
-                (copied q w ∙ ap (λ (x : ℕ). getD ys x 0) (omega arith) ∙ h .below (i - 64) (omega arith))
-            case (inr w) = p .off i (inr (omega arith)) ∙ h .from i (omega arith) m
+    off : (i : ℕ) → OffSlots u e a d n i → getD zs i 0 ≡ getD xs i 0
+    off i h = x .off i (h u (omega arith) he) ∙ t .off i (λ v l k. h v (omega arith) k)
 
-pub clearing-done : (c : ℕ) (xs ys : List ℕ) (u : ℕ) → u ≡ 1 → Clearing c xs ys u → Cleared c xs ys
-clearing-done c xs ys u h t =
-    record { long = t .long; first = λ i l. t .below i (omega arith); next = λ i l m. t .from i (omega arith) m }
+    -- slots below number m are as they were
+    before : (q v : ℕ) → q < n → v < m → slotsAt ys a d q v ≡ slotsAt xs a d q v
+    before q v hq l = t .off (a + v * d + q) (λ w k g. slot-off a d n v w q (λ y. omega arith) hq wide)
+
+    next : (q v : ℕ) → q < n → u ≤ v + 1 → v + 1 < e → slotsAt zs a d q (v + 1) ≡ slotsAt xs a d q (v + 1) ⊕ c ⊗ slotsAt xs a d q v
+    next q v hq l k = go (below-or-from u (v + 1))
+      where
+        go : (u < v + 1) ⊎ (v + 1 ≤ u) → slotsAt zs a d q (v + 1) ≡ slotsAt xs a d q (v + 1) ⊕ c ⊗ slotsAt xs a d q v
+        go (inl g) = x .off (a + (v + 1) * d + q) (slot-off a d n (v + 1) u q (λ y. omega arith) hq wide) ∙ t .next q v hq (omega arith) k
+        go (inr g) =
+            let w : u ≡ v + 1 = omega arith in
+            let here : a + u * d - d ≡ a + v * d = omega (arith, ap (λ (y : ℕ). y * d) w, add-mul v 1 d) in
+            ap (slotsAt zs a d q) (sym w) ∙ x .on q hq
+            ∙ ap₂ (λ (y z : ℕ). y ⊕ c ⊗ z) (before q u hq (omega arith) ∙ ap (slotsAt xs a d q) w)
+            (ap (λ (y : ℕ). getD ys (y + q) 0) here ∙ before q v hq (omega arith))
+
+pub clearing-done : (c e a d n : ℕ) (xs ys : List ℕ) (u : ℕ) → u ≤ 1 → 1 ≤ u → Clearing c e a d n xs ys u → Cleared c e a d n xs ys
+clearing-done c e a d n xs ys u h k t =
+    record {
+      long = t .long;
+      next = λ q v hq l. t .next q v hq (omega arith) l;
+      off = λ i g. t .off i (λ v l m. g v (omega arith) m);
+    }
 
 -- ---- setting apart
 
@@ -130,31 +211,25 @@ setting-turn bs ws xs v x hv lv few long h e u l = go (below-or-from (u + 1) v)
 -- ---- the first value
 
 -- a list from a place on
-rest : (xs : List ℕ) (a : ℕ) → take (length xs - a) (drop a xs) ≡ drop a xs
+pub rest : (xs : List ℕ) (a : ℕ) → take (length xs - a) (drop a xs) ≡ drop a xs
 rest xs a = take-all (length xs - a) (drop a xs) (omega (arith, length-drop a xs))
 
-zeros-at : (q : ℕ) → q < 64 → _≡_ {A = ℕ} (getD (replicate 64 0) q 0) 0
-zeros-at q l = getD-replicate 64 q 0 0 l
-
-pub first-made : (ws xs t u z ys : List ℕ) (i : ℕ) → 64 ≤ length xs → t ≡ onto (λ (x y : ℕ). y) (replicate 64 0) xs
-    → Combined (take (length ws - 1) (drop 1 ws)) (take (length xs - 64) (drop 64 xs)) t u → i ≡ inverseOf (getD ws 0 0) → z ≡ onto (λ (x y : ℕ). x ⊕ i ⊗ y) (replicate 64 0) u
-    → ys ≡ onto (λ (x y : ℕ). y) xs z → First ws xs ys
-first-made ws xs t u z ys i h et c′ ei ez ey =
-    record { long = ap length ey ∙ onto-length _ xs z; first = first; others = λ j l. ap (λ (a : List ℕ). getD a j 0) ey ∙ onto-past _ xs z j (omega (arith, z-long)) }
+-- what is, and that times one more
+twice : (i x : ℕ) → x < 256 → x ⊕ (i ⊕ 1) ⊗ x ≡ i ⊗ x
+twice i x h = ap (λ (y : ℕ). x ⊕ y) (product-sum i 1 x ∙ ap (λ (y : ℕ). i ⊗ x ⊕ y) (one-mul x h)) ∙ undo x (i ⊗ x)
   where
-    c : Combined (drop 1 ws) (drop 64 xs) t u
-    c = subst (λ (l : List ℕ). Combined (drop 1 ws) l t u) (rest xs 64) (subst (λ (l : List ℕ). Combined l (take (length xs - 64) (drop 64 xs)) t u) (rest ws 1) c′)
+    undo : (x y : ℕ) → x ⊕ (y ⊕ x) ≡ y
+    undo x y = simp sums
 
-    z-long : length z ≡ 64
-    z-long = ap length ez ∙ onto-length _ (replicate 64 0) u
-
-    first : (q : ℕ) → q < 64 → getD ys q 0 ≡ inverseOf (getD ws 0 0) ⊗ (getD xs q 0 ⊕ weighted (drop 1 ws) (slotsAt (drop 64 xs) q))
-    first q l =
-        ap (λ (a : List ℕ). getD a q 0) ey ∙ onto-at _ xs z q (omega arith) (omega (arith, z-long))
-        ∙ ap (λ (a : List ℕ). getD a q 0) ez ∙ onto-at _ (replicate 64 0) u q l (omega (arith, c .long))
-        ∙ ap (λ (x : ℕ). x ⊕ i ⊗ getD u q 0) (zeros-at q l) ∙ zero-add _
-        ∙ ap₂ _⊗_ ei (c .at q l ∙ ap (λ (x : ℕ). x ⊕ weighted (drop 1 ws) (slotsAt (drop 64 xs) q))
-        (ap (λ (a : List ℕ). getD a q 0) et ∙ onto-at _ (replicate 64 0) xs q l (omega arith)))
+pub first-made : (ws : List ℕ) (a d n i c : ℕ) (xs us ys : List ℕ) → Bytes us → Gathered (take (length ws - 1) (drop 1 ws)) a (a + d) d n xs us
+    → i ≡ inverseOf (getD ws 0 0) → c ≡ i ⊕ 1 → Mixed a a n c us ys → First ws a d n xs ys
+first-made ws a d n i c xs us ys bytes g ei ec m =
+    record { long = m .long ∙ g .long; first = first; others = λ j h. m .off j h ∙ g .off j h }
+  where
+    first : (q : ℕ) → q < n → getD ys (a + q) 0 ≡ inverseOf (getD ws 0 0) ⊗ (getD xs (a + q) 0 ⊕ weighted (drop 1 ws) (slotsAt xs (a + d) d q))
+    first q h =
+        m .on q h ∙ ap (λ (y : ℕ). getD us (a + q) 0 ⊕ y ⊗ getD us (a + q) 0) ec ∙ twice i (getD us (a + q) 0) (bytes (a + q))
+        ∙ ap₂ _⊗_ ei (g .on q h ∙ ap (λ (l : List ℕ). getD xs (a + q) 0 ⊕ weighted l (slotsAt xs (a + d) d q)) (rest ws 1))
 
 -- ---- the step of solving
 
@@ -179,81 +254,123 @@ weighted-moment (p ∷ bs) (w ∷ ws) (c ∷ cs) f e g b h =
     ∙ ap (λ (x : ℕ). x ⊕ moment bs ws cs 0)
     (sym (ap (λ (x : ℕ). w ⊗ x ⊗ c) (power-zero p) ∙ mul-assoc w 1 c ∙ ap (λ (x : ℕ). w ⊗ x) (one-mul c (b 0))))
 
-module _ (b w : ℕ) (bs ws xs ys ap′ zs us out : List ℕ) (same : length bs ≡ length ws) (few : length bs ≤ 2)
-    (long : length xs ≡ suc (length bs) * 64) (c : Cleared b xs ys) (a : SetApart (b ∷ bs) (w ∷ ws) ap′)
-    (s : Solved bs (take (length bs) ap′) (drop 64 ys) zs) (k : Back 64 (length ys - 64) ys zs us) (f : First (w ∷ ws) us out) where
+-- the slots of a buffer from the second on
+later-slot : (a d q v : ℕ) → a + d + v * d + q ≡ a + (v + 1) * d + q
+later-slot a d q v = omega (arith, add-mul v 1 d)
+
+module _ (b w : ℕ) (bs ws : List ℕ) (a d n : ℕ) (xs ys ap′ us out : List ℕ) (same : length bs ≡ length ws) (few : length bs ≤ 2) (wide : n ≤ d)
+    (c : Cleared b (suc (length bs)) a d n xs ys) (ap-is : SetApart (b ∷ bs) (w ∷ ws) ap′)
+    (s : Solved bs (take (length bs) ap′) (a + d) d n ys us) (f : First (w ∷ ws) a d n us out) where
   weights-are : take (length bs) ap′ ≡ apart b bs ws
   weights-are =
-      ext-getD 0 _ _ (length-take-le (length bs) ap′ (omega (arith, a .long)) ∙ apart-length b bs ws same)
-      (λ v h. at v (subst (λ (z : ℕ). v < z) (length-take-le (length bs) ap′ (omega (arith, a .long))) h))
+      ext-getD 0 _ _ (length-take-le (length bs) ap′ (omega (arith, ap-is .long)) ∙ apart-length b bs ws same)
+      (λ v h. at v (subst (λ (z : ℕ). v < z) (length-take-le (length bs) ap′ (omega (arith, ap-is .long))) h))
     where
       at : (v : ℕ) → v < length bs → getD (take (length bs) ap′) v 0 ≡ getD (apart b bs ws) v 0
       at v h =
-          getD-take (length bs) ap′ v 0 h ∙ a .at v (omega arith)
+          getD-take (length bs) ap′ v 0 h ∙ ap-is .at v (omega arith)
           ∙ ap (λ (n : ℕ). getD (w ∷ ws) n 0 ⊗ (getD (b ∷ bs) n 0 ⊕ b)) (add-one v) ∙ sym (apart-at b bs ws v h same)
 
-  sums-are : (q : ℕ) → q < 64 → (u : ℕ) → u < length bs → slotsAt (drop 64 ys) q u ≡ cleared b (slotsAt xs q) u
+  sums-are : (q : ℕ) → q < n → (u : ℕ) → u < length bs → slotsAt ys (a + d) d q u ≡ cleared b (slotsAt xs a d q) u
   unfolding cleared
   sums-are q hq u hu =
-      getD-drop 64 ys (u * 64 + q) 0 ∙ c .next (64 + (u * 64 + q)) (omega arith) (omega arith)
-      ∙ ap₂ (λ (x y : ℕ). getD xs x 0 ⊕ b ⊗ getD xs y 0) (omega arith) (omega arith)
+      ap (λ (z : ℕ). getD ys z 0) (later-slot a d q u) ∙ c .next q u hq (omega arith)
+      ∙ ap (λ (z : ℕ). slotsAt xs a d q z ⊕ b ⊗ slotsAt xs a d q u) (add-one u)
 
   abbrev values : ℕ → List ℕ
-  values q = solve bs (apart b bs ws) (cleared b (slotsAt xs q))
+  values q = solve bs (apart b bs ws) (cleared b (slotsAt xs a d q))
 
-  values-are : (q v : ℕ) → q < 64 → v < length bs → slotsAt zs q v ≡ getD (values q) v 0
+  values-are : (q v : ℕ) → q < n → v < length bs → slotsAt us (a + d) d q v ≡ getD (values q) v 0
   values-are q v hq hv =
       s .at q v hq hv
       ∙ ap (λ (l : List ℕ). getD l v 0)
-      (ap (λ (l : List ℕ). solve bs l (slotsAt (drop 64 ys) q)) weights-are
-      ∙ solve-same bs (apart b bs ws) (slotsAt (drop 64 ys) q) (cleared b (slotsAt xs q)) (sums-are q hq))
+      (ap (λ (l : List ℕ). solve bs l (slotsAt ys (a + d) d q)) weights-are
+      ∙ solve-same bs (apart b bs ws) (slotsAt ys (a + d) d q) (cleared b (slotsAt xs a d q)) (sums-are q hq))
 
-  room : length ys - 64 ≡ length bs * 64
-  room = omega (arith, c .long)
+  -- the first slot is as it was
+  first-kept : (q : ℕ) → q < n → getD us (a + q) 0 ≡ slotsAt xs a d q 0
+  first-kept q hq =
+      s .off (a + q) (λ v l h. inl (omega arith))
+      ∙ ap (λ (z : ℕ). getD ys z 0) (omega arith)
+      ∙ c .off (a + 0 * d + q) (λ v l h. slot-off a d n 0 v q (λ y. omega arith) hq wide)
 
-  others-are : (q v : ℕ) → q < 64 → v < length bs → slotsAt (drop 64 us) q v ≡ getD (values q) v 0
-  others-are q v hq hv =
-      getD-drop 64 us (v * 64 + q) 0 ∙ k .on (v * 64 + q) (omega (arith, room)) ∙ values-are q v hq hv
-
-  first-is : (q : ℕ) → q < 64 → getD out q 0 ≡ inverseOf w ⊗ (slotsAt xs q 0 ⊕ moment bs ws (values q) 0)
+  first-is : (q : ℕ) → q < n → getD out (a + q) 0 ≡ inverseOf w ⊗ (slotsAt xs a d q 0 ⊕ moment bs ws (values q) 0)
   first-is q hq =
       f .first q hq
-      ∙ ap₂ (λ (x y : ℕ). inverseOf w ⊗ (x ⊕ y)) (k .off q (inl hq) ∙ c .first q hq ∙ ap (λ (n : ℕ). getD xs n 0) (omega arith))
-      (weighted-moment bs ws (values q) (slotsAt (drop 64 us) q) same
-      (sym (solve-length bs (apart b bs ws) (cleared b (slotsAt xs q)) (apart-length b bs ws same))) (solve-bytes bs (apart b bs ws) (cleared b (slotsAt xs q)))
-      (λ v hv. others-are q v hq hv))
+      ∙ ap₂ (λ (x y : ℕ). inverseOf w ⊗ (x ⊕ y)) (first-kept q hq)
+      (weighted-moment bs ws (values q) (slotsAt us (a + d) d q) same
+      (sym (solve-length bs (apart b bs ws) (cleared b (slotsAt xs a d q)) (apart-length b bs ws same))) (solve-bytes bs (apart b bs ws) (cleared b (slotsAt xs a d q)))
+      (λ v hv. values-are q v hq hv))
 
-  pub solved-step : Solved (b ∷ bs) (w ∷ ws) xs out
+  pub solved-step : Solved (b ∷ bs) (w ∷ ws) a d n xs out
   unfolding solve
-  solved-step = record { long = f .long ∙ k .long ∙ c .long; at = at }
+  solved-step = record { long = f .long ∙ s .long ∙ c .long; at = at; off = off }
     where
-      at : (q v : ℕ) → q < 64 → v < suc (length bs) → slotsAt out q v ≡ getD (solve (b ∷ bs) (w ∷ ws) (slotsAt xs q)) v 0
+      at : (q v : ℕ) → q < n → v < suc (length bs) → slotsAt out a d q v ≡ getD (solve (b ∷ bs) (w ∷ ws) (slotsAt xs a d q)) v 0
       at q zero hq hv = ap (λ (n : ℕ). getD out n 0) (omega arith) ∙ first-is q hq
       at q (suc v) hq hv =
-          f .others (suc v * 64 + q) (omega arith)
-          ∙ ap (λ (n : ℕ). getD us n 0) (omega arith)
-          ∙ k .on (v * 64 + q) (omega (arith, room)) ∙ values-are q v hq (le-of-suc-le-suc hv)
+          ap (λ (z : ℕ). slotsAt out a d q z) (sym (add-one v))
+          ∙ f .others (a + (v + 1) * d + q) (inr (omega (arith, add-mul v 1 d)))
+          ∙ ap (λ (z : ℕ). getD us z 0) (sym (later-slot a d q v)) ∙ values-are q v hq (le-of-suc-le-suc hv)
+
+      off : (i : ℕ) → OffSlots 0 (suc (length bs)) a d n i → getD out i 0 ≡ getD xs i 0
+      off i h =
+          f .others i (subst (λ (z : ℕ). Outside z n i) (omega arith) (h 0 (omega arith) (omega arith)))
+          ∙ s .off i (λ v l k. subst (λ (z : ℕ). Outside z n i) (omega (arith, add-mul v 1 d)) (h (v + 1) (omega arith) (omega arith)))
+          ∙ c .off i (λ v l k. h v (omega arith) k)
 
 -- no points, no values
-pub solved-none : (bs ws xs : List ℕ) → length bs ≡ 0 → Solved bs ws xs xs
-solved-none bs ws xs h = record { long = refl; at = λ q v hq hv. absurd (omega arith) }
+pub solved-none : (bs ws : List ℕ) (a d n : ℕ) (xs : List ℕ) → length bs ≡ 0 → Solved bs ws a d n xs xs
+solved-none bs ws a d n xs h = record { long = refl; at = λ q v hq hv. absurd (omega arith); off = λ i g. refl }
 
 less-one : (n : ℕ) → suc n - 1 ≡ n
 less-one n = omega arith
 
-pub solved-turn : (bs ws xs ys ap′ zs us out : List ℕ) → (length bs ≡ 0 → ⊥) → length ws ≡ length bs → length bs ≤ 3 → length xs ≡ length bs * 64
-    → Cleared (getD bs 0 0) xs ys → SetApart bs ws ap′
-    → Solved (take (length bs - 1) (drop 1 bs)) (take (length bs - 1) ap′) (take (length ys - 64) (drop 64 ys)) zs
-    → Back 64 (length ys - 64) ys zs us → First ws us out → Solved bs ws xs out
-solved-turn [] ws xs ys ap′ zs us out n e few long c a s k f = absurd (n refl)
-solved-turn (b ∷ bs) [] xs ys ap′ zs us out n e few long c a s k f = absurd (suc-ne-zero (length bs) (sym e))
-solved-turn (b ∷ bs) (w ∷ ws) xs ys ap′ zs us out n e few long c a s k f =
-    solved-step b w bs ws xs ys ap′ zs us out (sym (suc-inj e)) (le-of-suc-le-suc few) long c a
-    (subst (λ (l : List ℕ). Solved bs (take (length bs) ap′) l zs) (rest ys 64)
-    (subst (λ (l : List ℕ). Solved l (take (length bs) ap′) (take (length ys - 64) (drop 64 ys)) zs) (rest (b ∷ bs) 1)
-    (subst (λ (n : ℕ). Solved (take (length (b ∷ bs) - 1) (drop 1 (b ∷ bs))) (take n ap′) (take (length ys - 64) (drop 64 ys)) zs) (less-one (length bs)) s)))
-    k f
+pub solved-turn : (bs ws : List ℕ) (a d n : ℕ) (xs ys ap′ us out : List ℕ) → (length bs ≡ 0 → ⊥) → length ws ≡ length bs → length bs ≤ 3 → n ≤ d
+    → Cleared (getD bs 0 0) (length bs) a d n xs ys → SetApart bs ws ap′
+    → Solved (take (length bs - 1) (drop 1 bs)) (take (length bs - 1) ap′) (a + d) d n ys us
+    → First ws a d n us out → Solved bs ws a d n xs out
+solved-turn [] ws a d n xs ys ap′ us out some e few wide c p s f = absurd (some refl)
+solved-turn (b ∷ bs) [] a d n xs ys ap′ us out some e few wide c p s f = absurd (suc-ne-zero (length bs) (sym e))
+solved-turn (b ∷ bs) (w ∷ ws) a d n xs ys ap′ us out some e few wide c p s f =
+    solved-step b w bs ws a d n xs ys ap′ us out (sym (suc-inj e)) (le-of-suc-le-suc few) wide c p
+    (subst (λ (l : List ℕ). Solved l (take (length bs) ap′) (a + d) d n ys us) (take-all (length bs) bs (omega arith))
+    (subst (λ (k : ℕ). Solved (take k bs) (take k ap′) (a + d) d n ys us) (less-one (length bs)) s))
+    f
 
-pub ltn : (n : ℕ) → (n ≡ 0 → ⊥) → 1 ≤ n
-ltn zero h = absurd (h refl)
-ltn (suc n) h = omega arith
+-- ---- what the functions ask of each other
+
+pub spaced-rest : (e a d n len : ℕ) → Spaced e a d n len → 0 < e → Spaced (e - 1) (a + d) d n len
+spaced-rest e a d n len s h =
+    record {
+      few = omega (arith, s .few);
+      small = s .small;
+      step = s .step;
+      wide = s .wide;
+      room = λ v l. omega (arith, s .room (v + 1) (omega arith), add-mul v 1 d);
+    }
+
+pub first-sources : (e a d n len : ℕ) → Spaced e a d n len → 0 < e → Sources (e - 1) a (a + d) d n len
+first-sources e a d n len s h =
+    record {
+      few = omega (arith, s .few);
+      small = s .small;
+      target = omega (arith, s .room 0 h);
+      source = λ v l. omega (arith, s .room (v + 1) (omega arith), add-mul v 1 d);
+      apart = λ v q l k. inr (omega (arith, s .wide));
+    }
+
+pub spaced-as : (e e′ a d n len len′ : ℕ) → e ≡ e′ → len ≡ len′ → Spaced e a d n len → Spaced e′ a d n len′
+spaced-as e e′ a d n len len′ p q s =
+    subst (λ (x : ℕ). Spaced x a d n len′) p (subst (λ (x : ℕ). Spaced e a d n x) q s)
+
+pub sources-as : (e e′ a b d n len : ℕ) → e ≡ e′ → Sources e a b d n len → Sources e′ a b d n len
+sources-as e e′ a b d n len p s = subst (λ (x : ℕ). Sources x a b d n len) p s
+
+-- a list but its first entry
+pub rest-long : (xs : List ℕ) → length xs - 1 ≡ length (take (length xs - 1) (drop 1 xs))
+rest-long xs = sym (ap length (rest xs 1) ∙ length-drop 1 xs)
+
+pub some-of : (n : ℕ) → (n ≡ 0 → ⊥) → 0 < n
+some-of zero h = absurd (h refl)
+some-of (suc n) h = omega arith

@@ -1,8 +1,6 @@
 pub mod Mend
 pub mod Lost
 pub mod Slots
-pub mod Blocks
-pub mod Errors
-pub mod Write
-pub mod Judge
 pub mod Restore
+pub mod Plan
+pub mod Scratch

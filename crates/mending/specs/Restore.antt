@@ -1,11 +1,11 @@
--- A stripe and a record that nothing is refused of, and what restoring leaves.
+-- A record that nothing is refused of, and what restoring leaves.
 use Prim.Native.Nat.{ℕ, _≤_}
 use mathlib.Core.Path.{_≡_}
 use mathlib.Core.Logic.{_⊎_}
 use mathlib.Core.List.{List}
 use lib.ListN.{length}
 use Rattle.stripe.specs.declared.Shape.{Shape}
-use Rattle.stripe.specs.Shape.{shapeRefusal, columns, stripeLength}
+use Rattle.stripe.specs.Shape.{shapeRefusal, columns}
 use Rattle.stripe.specs.Stripe.{Ascending}
 use Rattle.coding.specs.declared.check.Wrong.{Wrong}
 use Rattle.coding.specs.declared.check.Wrong.the-variants.{Nowhere, At, Refused}
@@ -13,9 +13,8 @@ use Rattle.mending.specs.declared.lost.Lost.{Lost}
 use Rattle.mending.specs.Lost.{lostList}
 use Rattle.mending.specs.Mend.{Restored}
 
-pub record Ready (s : Shape) (w : Lost) (xs : List ℕ) : Type 0 where
+pub record Ready (s : Shape) (w : Lost) : Type 0 where
   pub shape : shapeRefusal s ≡ 0
-  pub long : length xs ≡ stripeLength s
   pub three : length (w .at) ≡ 3
   pub few : w .count ≤ s .r
   pub ascend : Ascending 0 (columns s) (lostList w)

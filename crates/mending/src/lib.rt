@@ -1,36 +1,32 @@
 // Mending: the lost columns of a stripe restored, or refused where no codeword agrees with the columns that survive.
 // Nothing is written before everything is judged.
-mod block;
-mod errors;
-mod judge;
 pub mod lost;
+mod mix;
+mod plan;
+mod run;
+mod scalars;
+mod settle;
 mod solve;
 mod write;
 
-use crate::errors::row_weights;
-use crate::judge::judge_all;
-use crate::lost::CAPACITY;
 use crate::lost::Lost;
-use crate::lost::data_lost;
-use crate::lost::first_row;
 use crate::lost::list_refusal;
 use crate::lost::lost_of;
-use crate::lost::row_step;
-use crate::write::write_all;
+use crate::plan::plan_of;
+use crate::run::solve_runs;
+use crate::settle::settle;
+use crate::write::write;
 use coding::check::Wrong;
 use coding::check::first_wrong;
 use stripe::Shape;
+use syndromes::syndromes;
 ghost use mathlib.Core.Path.{_≡_};
-ghost use Prim.Native.Nat.{_+_, _*_, _≤_};
+ghost use Prim.Native.Nat.{_≤_};
 ghost use mathlib.Core.List.{[]};
 ghost use lib.ListN.{length};
-ghost use Rattle.stripe.specs.Shape.{shapeRefusal, stripeLength};
-ghost use Rattle.stripe.specs.Stripe.{runLength};
+ghost use Rattle.stripe.specs.Shape.{shapeRefusal, parityLength, stripeLength};
 ghost use Rattle.mending.specs.Mend.{mendRefusal, Mended};
 ghost use Rattle.mending.specs.Lost.{lostList};
-ghost use Rattle.mending.specs.Blocks.{Whole};
-ghost use Rattle.mending.specs.Write.{Planned};
-ghost use Rattle.mending.specs.Judge.{FineBelow, Says};
 ghost use Rattle.mending.specs.Restore.{Ready, Restores, verdictOf};
 
 // The stripe with its lost columns mended, and 0; or a refusal, and the stripe stays: 1, 2, 5, 6 or 7 for what is lent, 8 where no
@@ -88,72 +84,48 @@ fn mend_refusal(s: Shape, d: usize, list: &[u8]) -> u32
     list_refusal(s, list)
 }
 
-// 0 with the lost columns mended, or 8 and the stripe stays.
+// 0 with the lost columns mended, or 8 and the stripe stays; the scratch is no longer than a short stripe needs.
 fn restore(s: Shape, lost: Lost, stripe: &mut [u8]) -> u32
-    requires { ⌜ Ready s lost (now stripe) ⌝ }
+    requires { ⌜ Ready s lost × (length (now stripe) ≡ stripeLength s) ⌝ }
     ensures { λ v. ⌜ Restores s (lostList lost) (now (stripe .entry)) v (now (stripe .exit)) ⌝ }
 {
-    let m = run_length(s);
-    let k = s.k;
+    if s.l <= 64 {
+        let mut slots = [0u8; 192];
+        let mut spare = [0u8; 64];
+        return restore_in(s, lost, stripe, &mut slots, &mut spare);
+    }
+    if s.l <= 512 {
+        let mut slots = [0u8; 1536];
+        let mut spare = [0u8; 512];
+        return restore_in(s, lost, stripe, &mut slots, &mut spare);
+    }
+    let mut slots = [0u8; 12288];
+    let mut spare = [0u8; 4096];
+    restore_in(s, lost, stripe, &mut slots, &mut spare)
+}
+
+// The same, in scratch that has room for r rows.
+fn restore_in(s: Shape, lost: Lost, stripe: &mut [u8], slots: &mut [u8], spare: &mut [u8]) -> u32
+    requires { ⌜ Ready s lost × ((length (now stripe) ≡ stripeLength s) × ((parityLength s ≤ length (now slots)) × (s .l ≤ length (now spare)))) ⌝ }
+    ensures { λ v. ⌜ Restores s (lostList lost) (now (stripe .entry)) v (now (stripe .exit)) ⌝ }
+{
     let r = s.r;
-    let count = data_lost(lost, k, k + r);
-    let first = first_row(lost, k);
-    let step = row_step(lost, k);
-    let at = lost.at;
-    let points = row_weights(at, count, step);
-    let weights = row_weights(at, count, first);
-    if !agrees(
-        s,
-        m,
-        lost,
-        first,
-        step,
-        &points[..count],
-        &weights[..count],
-        stripe,
-    ) {
+    let l = s.l;
+    let n = r * l;
+    restore_rows(s, lost, stripe, &mut slots[..n], spare)
+}
+
+// The same, in r rows: everything is judged there before a byte is written.
+fn restore_rows(s: Shape, lost: Lost, stripe: &mut [u8], slots: &mut [u8], spare: &mut [u8]) -> u32
+    requires { ⌜ Ready s lost × ((length (now stripe) ≡ stripeLength s) × ((length (now slots) ≡ parityLength s) × (s .l ≤ length (now spare)))) ⌝ }
+    ensures { λ v. ⌜ Restores s (lostList lost) (now (stripe .entry)) v (now (stripe .exit)) ⌝ }
+{
+    let p = plan_of(s, lost);
+    syndromes(s, p.pivot, stripe, slots);
+    solve_runs(s, p, slots, spare);
+    if !settle(s, p, slots, spare) {
         return 8;
     }
-    write_all(
-        s,
-        m,
-        lost,
-        first,
-        step,
-        &points[..count],
-        &weights[..count],
-        stripe,
-    );
+    write(s, p, slots, stripe);
     0
-}
-
-// Whether each surviving row is what the mended data say; with r lost there is none beside those solved by.
-fn agrees(
-    s: Shape,
-    m: usize,
-    lost: Lost,
-    first: usize,
-    step: usize,
-    points: &[u8],
-    weights: &[u8],
-    stripe: &[u8],
-) -> bool
-    requires { ⌜ Whole s m (now stripe) × Planned s lost first step (now points) (now weights) ⌝ }
-    ensures { λ v. ⌜ Says v (FineBelow s (lostList lost) (now (stripe .entry)) (s .l)) ⌝ }
-{
-    if s.r <= lost.count {
-        return true;
-    }
-    judge_all(s, m, lost, first, step, points, weights, stripe)
-}
-
-// The bytes of a run.
-fn run_length(s: Shape) -> usize
-    requires { ⌜ shapeRefusal s ≡ 0 ⌝ }
-    ensures { λ v. ⌜ v ≡ runLength s ⌝ }
-{
-    if s.t == 0 {
-        return s.l;
-    }
-    s.l / s.t
 }

@@ -1,46 +1,50 @@
-// Sums of powers solved at 64 places together. Slot v of a buffer is the 64 bytes from v * 64 on; at each place the slots hold
-// what belongs to it. The first point is taken out of the sums, the others are solved, and the first value is what the first sum lacks.
+// Sums of powers solved at the n places of slots together, in place: the first point is taken out of the sums, the others are solved,
+// and the first value is what the first sum lacks.
 use crate::lost::CAPACITY;
+use crate::mix::gather;
+use crate::mix::mix;
+use crate::scalars::inverse;
+use crate::scalars::product;
 use field::Gf;
-use lanes::copy;
-use lanes::scale_add;
 ghost use mathlib.Core.Path.{_≡_};
-ghost use Prim.Native.Nat.{ℕ, _+_, _*_, _-_, _%_, _≤_, _<_};
-ghost use lib.ListN.{length, getD};
-ghost use Rattle.field.specs.Field.{_⊕_, _⊗_, inverseOf};
-ghost use Rattle.mending.specs.Slots.{weighted, Combined, Cleared, First, SetApart, Solved};
+ghost use Prim.Native.Nat.{_≤_, _<_};
+ghost use lib.ListN.{length};
+ghost use Rattle.mending.specs.Slots.{Spaced, Cleared, First, SetApart, Solved};
 
 // The values that have the sums, in place of the sums.
-pub(crate) fn solve_block(points: &[u8], weights: &[u8], slots: &mut [u8])
-    requires { ⌜ (length (now points) ≤ 3) × ((length (now weights) ≡ length (now points)) × (length (now slots) ≡ length (now points) * 64)) ⌝ }
-    ensures { λ _. ⌜ Solved (now (points .entry)) (now (weights .entry)) (now (slots .entry)) (now (slots .exit)) ⌝ }
+pub(crate) fn solve_slots(
+    points: &[u8],
+    weights: &[u8],
+    slots: &mut [u8],
+    at: usize,
+    d: usize,
+    n: usize,
+    spare: &mut [u8],
+)
+    requires { ⌜ Spaced (length (now points)) at d n (length (now slots)) × ((length (now weights) ≡ length (now points)) × (n ≤ length (now spare))) ⌝ }
+    ensures { λ _. ⌜ Solved (now (points .entry)) (now (weights .entry)) at d n (now (slots .entry)) (now (slots .exit)) × (length (now (spare .exit)) ≡ length (now (spare .entry))) ⌝ }
 {
-    let n = points.len();
-    if n == 0 {
+    let e = points.len();
+    if e == 0 {
         return;
     }
-    let b = points[0];
-    clear(b, slots);
+    clear(points[0], e, slots, at, d, n, spare);
     let w = set_apart(points, weights);
-    let m = n - 1;
-    solve_block(&points[1..], &w[..m], &mut slots[64..]);
-    first_value(weights, slots);
+    let f = e - 1;
+    solve_slots(&points[1..], &w[..f], slots, at + d, d, n, spare);
+    first_value(weights, slots, at, d, n, spare);
 }
 
-// Each slot but the first plus b times the slot before.
-fn clear(b: u8, slots: &mut [u8])
-    requires { ⌜ (0 < length (now slots)) × (length (now slots) % 64 ≡ 0) ⌝ }
-    ensures { λ _. ⌜ Cleared b (now (slots .entry)) (now (slots .exit)) ⌝ }
+// Each slot but the first plus c times the slot before.
+fn clear(c: u8, e: usize, slots: &mut [u8], at: usize, d: usize, n: usize, spare: &mut [u8])
+    requires { ⌜ Spaced e at d n (length (now slots)) × ((0 < e) × (n ≤ length (now spare))) ⌝ }
+    ensures { λ _. ⌜ Cleared c e at d n (now (slots .entry)) (now (slots .exit)) × (length (now (spare .exit)) ≡ length (now (spare .entry))) ⌝ }
 {
-    let mut u = slots.len() / 64;
+    let mut u = e;
     while 1 < u {
         u = u - 1;
-        let s = u * 64;
-        let p = s - 64;
-        let e = s + 64;
-        let mut t = [0u8; 64];
-        copy(&mut t, &slots[p..s]);
-        scale_add(&mut slots[s..e], b, &t);
+        let to = at + u * d;
+        mix(slots, to, to - d, n, c, spare);
     }
 }
 
@@ -53,37 +57,20 @@ fn set_apart(points: &[u8], weights: &[u8]) -> [u8; CAPACITY]
     let mut v = 1;
     while v < points.len() {
         let d = Gf(points[v]).sum(Gf(points[0]));
-        let p = Gf(weights[v]).product(d);
+        let p = product(Gf(weights[v]), d);
         w[v - 1] = p.0;
         v += 1;
     }
     w
 }
 
-// The first slot and the others by their weights, times the inverse of the first weight.
-fn first_value(weights: &[u8], slots: &mut [u8])
-    requires { ⌜ (0 < length (now weights)) × (length (now slots) ≡ length (now weights) * 64) ⌝ }
-    ensures { λ _. ⌜ First (now (weights .entry)) (now (slots .entry)) (now (slots .exit)) ⌝ }
+// The first slot and the others by their weights, times the inverse of the first weight: what it is plus what it is times that and one.
+fn first_value(weights: &[u8], slots: &mut [u8], at: usize, d: usize, n: usize, spare: &mut [u8])
+    requires { ⌜ Spaced (length (now weights)) at d n (length (now slots)) × ((0 < length (now weights)) × (n ≤ length (now spare))) ⌝ }
+    ensures { λ _. ⌜ First (now (weights .entry)) at d n (now (slots .entry)) (now (slots .exit)) × (length (now (spare .exit)) ≡ length (now (spare .entry))) ⌝ }
 {
-    let mut t = [0u8; 64];
-    copy(&mut t, slots);
-    combine(&weights[1..], &slots[64..], &mut t);
-    let mut z = [0u8; 64];
-    let i = Gf(weights[0]).inverse();
-    scale_add(&mut z, i.0, &t);
-    copy(slots, &z);
-}
-
-// At each place each slot times its weight is added.
-pub(crate) fn combine(weights: &[u8], slots: &[u8], a: &mut [u8])
-    requires { ⌜ (length (now a) ≡ 64) × (length (now weights) * 64 ≤ length (now slots)) ⌝ }
-    ensures { λ _. ⌜ Combined (now (weights .entry)) (now (slots .entry)) (now (a .entry)) (now (a .exit)) ⌝ }
-{
-    let mut v = weights.len();
-    while 0 < v {
-        v = v - 1;
-        let s = v * 64;
-        let e = s + 64;
-        scale_add(a, weights[v], &slots[s..e]);
-    }
+    gather(&weights[1..], slots, at, at + d, d, n, spare);
+    let i = inverse(Gf(weights[0]));
+    let c = i.sum(Gf(1));
+    mix(slots, at, at, n, c.0, spare);
 }

@@ -1,10 +1,10 @@
 -- `checked` meets its contract: the two parts are the data and the parity.
 use Prim.Native.Nat.{ℕ}
-use mathlib.Core.Path.{_≡_, sym, ap, _∙_, subst}
+use mathlib.Core.Path.{sym, ap, _∙_, subst}
 use mathlib.Core.List.{List, []}
 use native.Mathlib.Omega.{arith}
 use denote.Ref.{now}
-use lib.ListN.{take, drop}
+use lib.ListN.{take}
 use Rattle.stripe.specs.Shape.{dataLength}
 use Rattle.coding.specs.Check.{firstWrong}
 use Rattle.mending.specs.Restore.{Restores}

@@ -46,7 +46,8 @@ lost-of-requires c κs = search needs
 restore-requires : tie.Need-restore-requires
 restore-requires c κs =
     let a = c .before .before .before .before .before .before .before .args in
-    subst (λ (w : Lost). Ready (a .s) w (a .stripe .now)) (sym (c .before .lost-of .ensures)) (ready (a .s) (a .lost .now) (a .stripe .now) (sym (c .before .before .before .before .mend-refusal .ensures) ∙ c .before .before .before .if1 .left))
+    let z : mendRefusal (a .s) (length (a .stripe .now)) (a .lost .now) ≡ 0 = sym (c .before .before .before .before .mend-refusal .ensures) ∙ c .before .before .before .if1 .left in
+    (subst (λ (w : Lost). Ready (a .s) w) (sym (c .before .lost-of .ensures)) (ready (a .s) (a .lost .now) (a .stripe .now) z), passed (a .s) (length (a .stripe .now)) (a .lost .now) z .long)
 
 same-length-2 : tie.Need-same-length-2
 same-length-2 c = search needs

@@ -1,11 +1,9 @@
 -- `ascends` meets its contract: what is left of the list ascends from the least position that may follow.
-use Prim.Native.Nat.{ℕ, _≤_, _-_}
-use mathlib.Core.Path.{_≡_, refl, sym, ap, _∙_}
-use mathlib.Core.List.{List}
+use Prim.Native.Nat.{_≤_, _-_}
+use mathlib.Core.Path.{_≡_, refl, sym, _∙_}
 use native.Mathlib.Omega.{arith}
-use native.Mathlib.Numerals.{add-one}
 use borrow.Author.Needs.{needs}
-use lib.ListN.{length, drop, length-drop}
+use lib.ListN.{length, drop}
 use Rattle.mending.specs.Mend.{positions, ascending}
 use Rattle.mending.proofs.Listed.{low-pair, high-pair, good-pair, no-pair}
 use Rattle.mending.proofs.lost.ascends.Statement.{statement}

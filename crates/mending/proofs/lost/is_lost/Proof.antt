@@ -1,11 +1,11 @@
 -- `is_lost` meets its contract.
 use borrow.Author.Needs.{needs}
-use Prim.Native.Nat.{ℕ, _+_, _*_, _-_, _≤_, _<_}
-use mathlib.Core.Path.{_≡_, refl, sym, ap, _∙_}
+use Prim.Native.Nat.{ℕ, _-_, _≤_, _<_}
+use mathlib.Core.Path.{_≡_, sym, _∙_}
 use mathlib.Core.List.{[], _∷_}
 use native.Mathlib.Omega.{arith}
 use borrow.Author.Count.{below-more}
-use lib.ListN.{getD, length, take, length-map}
+use lib.ListN.{getD, length, length-map}
 use denote.Laws.{Is}
 use denote.Struct.Laws as LL
 use Rattle.mending.specs.declared.lost.Lost.{Lost}

@@ -1,92 +1,69 @@
 -- `clear` meets its contract.
-use Prim.Native.Nat.{ℕ, _+_, _≤_, _*_, _-_}
-use mathlib.Core.Path.{_≡_, ap, _∙_}
-use Rattle.lanes.proofs.Onto.{onto-length}
-use native.Mathlib.Omega.{arith}
-use lib.ListN.{length}
 use borrow.Author.Needs.{needs}
+use Prim.Native.Nat.{_-_, _≤_}
+use mathlib.Core.Path.{_≡_, refl, _∙_}
+use native.Mathlib.Omega.{arith}
+use native.Mathlib.Nat.{mul-le-mul-right}
+use lib.ListN.{length}
 use Rattle.mending.proofs.Slots.{Clearing, clearing-start, clearing-turn, clearing-done}
-use Rattle.mending.proofs.Parts.{part-onto, onto-part}
 use Rattle.mending.proofs.solve.clear.Statement.{statement}
 use Rattle.mending.proofs.solve.clear.Tie as tie
 
 abbrev Inv-loop : tie.InvT-loop
-Inv-loop b slots₀ u₀ slots u = (1 ≤ u) × ((u * 64 ≤ length slots₀) × Clearing b slots₀ slots u)
+Inv-loop c e slots₀ at d n spare₀ u₀ slots spare u =
+    (1 ≤ u) × ((u ≤ e) × (Clearing c e at d n slots₀ slots u × (length spare ≡ length spare₀)))
 
 abbrev μ-loop : tie.MeasureT-loop
-μ-loop b slots₀ u₀ slots u = u
+μ-loop c e slots₀ at d n spare₀ u₀ slots spare u = u
 
 loop-holds : tie.Need-loop-holds Inv-loop μ-loop
-loop-holds c = (search needs, (search needs, clearing-start _ _ _ (omega arith)))
+loop-holds c = (search needs, (search needs, (clearing-start _ _ _ _ _ _, refl)))
 
 sub-u : tie.Need-sub-u Inv-loop μ-loop
 sub-u c = search needs
 
-mul-s : tie.Need-mul-s Inv-loop μ-loop
-mul-s c = search needs
+mul-to : tie.Need-mul-to Inv-loop μ-loop
+mul-to c = let w = c .before .before .before .before .pre in omega (arith, w .0 .room (c .before .loop .u - 1) (omega arith), w .0 .small)
 
-sub-p : tie.Need-sub-p Inv-loop μ-loop
-sub-p c = search needs
+add-to : tie.Need-add-to Inv-loop μ-loop
+add-to c = let w = c .before .before .before .before .pre in omega (arith, w .0 .room (c .before .loop .u - 1) (omega arith), w .0 .small)
 
-add-e : tie.Need-add-e Inv-loop μ-loop
-add-e c = search needs
+sub-mix : tie.Need-sub-mix Inv-loop μ-loop
+sub-mix c = let some : 1 ≤ c .before .before .loop .u - 1 = omega (arith, c .before .loop-test .taken) in omega (arith, mul-le-mul-right (c .before .before .before .before .before .args .d) some)
 
-slice-aggregate-copy : tie.Need-slice-aggregate-copy Inv-loop μ-loop
-slice-aggregate-copy c = search needs
-
-sub-copy : tie.Need-sub-copy Inv-loop μ-loop
-sub-copy c = search needs
-
-part-copy-start : tie.Need-part-copy-start Inv-loop μ-loop
-part-copy-start c = search needs
-
-part-copy-end : tie.Need-part-copy-end Inv-loop μ-loop
-part-copy-end c = search needs
-
-copy-requires : tie.Need-copy-requires Inv-loop μ-loop
-copy-requires c κs = search needs
-
-sub-scale-add : tie.Need-sub-scale-add Inv-loop μ-loop
-sub-scale-add c = search needs
-
-part-scale-add-start : tie.Need-part-scale-add-start Inv-loop μ-loop
-part-scale-add-start c = search needs
-
-part-scale-add-end : tie.Need-part-scale-add-end Inv-loop μ-loop
-part-scale-add-end c = search needs
-
-slice-aggregate-scale-add : tie.Need-slice-aggregate-scale-add Inv-loop μ-loop
-slice-aggregate-scale-add c = search needs
-
-scale-add-requires : tie.Need-scale-add-requires Inv-loop μ-loop
-scale-add-requires c κs = search needs
+mix-requires : tie.Need-mix-requires Inv-loop μ-loop
+mix-requires c κs =
+    let w = c .before .before .before .before .before .before .pre in
+    let t = c .before .before .before .loop .inv in
+    let r = w .0 .room (c .before .before .before .loop .u - 1) (omega arith) in
+    (omega (arith, r, t .1 .1 .0 .long), (omega (arith, r, t .1 .1 .0 .long), (omega arith, omega (arith, w .0 .small, t .1 .1 .0 .long))))
 
 loop-less : tie.Need-loop-less Inv-loop μ-loop
 loop-less c = search needs
 
 loop-again : tie.Need-loop-again Inv-loop μ-loop
 loop-again c =
-    let at = c .before .before .before .before .before .before .before .before .before .before .before in
-    let xs = at .loop .slots in
-    let copied = c .before .before .before .before .before .before .copy in
-    let u = at .loop .u - 1 in
-    let long : length xs ≡ length (at .before .before .args .slots .now) = at .loop .inv .1 .1 .long in
-    let few : u * 64 + 64 ≤ length xs = omega arith in
-    let zs : length (copied .last .0) ≡ 64 = ap length (copied .ensures) ∙ onto-length _ _ _ in (
-      omega arith,
+    let a = c .before .before .before .before .before .before .before .before .before .before .before .args in
+    let t = c .before .before .before .before .before .before .before .before .loop in (
+      omega (arith, c .before .before .before .before .before .before .before .loop-test .taken),
       (
-        omega arith,
-        clearing-turn _ _ xs _ (copied .last .0) (at .loop .u) u (omega arith) (omega arith) (omega arith) (at .loop .inv .1 .1) zs
-            (λ q l. onto-part (λ (x y : ℕ). y) _ xs (copied .last .0) (u * 64 - 64) (u * 64) q (omega arith) (omega arith) (copied .ensures) (omega arith) l)
-            (part-onto _ (u * 64) (u * 64 + 64) xs (copied .last .0) _ (omega arith) few (omega arith) (c .before .before .scale-add .ensures)),
+        omega (arith, t .inv .1 .0),
+        (
+          clearing-turn (a .c) (a .e) (a .at) (a .d) (a .n) (a .slots .now) (t .slots) (c .before .before .before .before .mix .last .0) (t .u) (t .u - 1)
+              (omega arith) (omega (arith, c .before .before .before .before .before .before .before .loop-test .taken)) (omega (arith, t .inv .1 .0, t .inv .0)) (c .before .before .before .before .before .before .before .before .before .before .before .pre .0 .wide) (t .inv .1 .1 .0) (c .before .before .before .before .mix .ensures .0),
+          c .before .before .before .before .mix .ensures .1 ∙ t .inv .1 .1 .1,
+        ),
       ),
     )
 
 same-length : tie.Need-same-length Inv-loop μ-loop
-same-length c = search needs
+same-length c = c .before .loop .inv .1 .1 .0 .long
+
+same-length-2 : tie.Need-same-length-2 Inv-loop μ-loop
+same-length-2 c = c .before .loop .inv .1 .1 .1
 
 returns : tie.Need-returns Inv-loop μ-loop
-returns c = clearing-done _ _ _ _ (omega arith) (c .before .loop .inv .1 .1)
+returns c = (clearing-done _ _ _ _ _ _ _ _ (c .loop-test .left) (c .before .loop .inv .0) (c .before .loop .inv .1 .1 .0), c .before .loop .inv .1 .1 .1)
 
 pub clear-spec : {M : Type 1} → statement M
 clear-spec =
@@ -96,20 +73,12 @@ clear-spec =
     μ-loop
     loop-holds
     sub-u
-    mul-s
-    sub-p
-    add-e
-    slice-aggregate-copy
-    sub-copy
-    part-copy-start
-    part-copy-end
-    copy-requires
-    sub-scale-add
-    part-scale-add-start
-    part-scale-add-end
-    slice-aggregate-scale-add
-    scale-add-requires
+    mul-to
+    add-to
+    sub-mix
+    mix-requires
     loop-less
     loop-again
     same-length
+    same-length-2
     returns)

@@ -1,89 +1,74 @@
 -- `first_value` meets its contract.
-use borrow.Author.Needs.{needs}
+use mathlib.Core.Path.{_∙_}
 use native.Mathlib.Omega.{arith}
-use Rattle.mending.proofs.Slots.{first-made}
+use lib.ListN.{length}
+use Rattle.mending.proofs.Slots.{sources-as, rest-long, first-sources, first-made}
+use borrow.Author.Needs.{needs}
 use Rattle.mending.proofs.solve.first_value.Statement.{statement}
 use Rattle.mending.proofs.solve.first_value.Tie as tie
 
-slice-aggregate-copy : tie.Need-slice-aggregate-copy
-slice-aggregate-copy c = search needs
+sub-gather : tie.Need-sub-gather
+sub-gather c = search needs
 
-copy-requires : tie.Need-copy-requires
-copy-requires c κs = search needs
+part-gather-start : tie.Need-part-gather-start
+part-gather-start c = search needs
 
-sub-combine : tie.Need-sub-combine
-sub-combine c = search needs
+part-gather-end : tie.Need-part-gather-end
+part-gather-end c = search needs
 
-part-combine-start : tie.Need-part-combine-start
-part-combine-start c = search needs
+add-gather : tie.Need-add-gather
+add-gather c = let w = c .before .before .before .before .before .pre in omega (arith, w .0 .room 0 (w .1 .0), w .0 .small, w .0 .step)
 
-part-combine-end : tie.Need-part-combine-end
-part-combine-end c = search needs
+gather-requires : tie.Need-gather-requires
+gather-requires c κs =
+    let a = c .before .before .before .before .before .before .args in
+    let w = c .before .before .before .before .before .before .pre in
+    (sources-as _ _ _ _ _ _ _ (rest-long (a .weights .now)) (first-sources (length (a .weights .now)) (a .at) (a .d) (a .n) _ (w .0) (w .1 .0)), w .1 .1)
 
-sub-combine-2 : tie.Need-sub-combine-2
-sub-combine-2 c = search needs
-
-part-combine-start-2 : tie.Need-part-combine-start-2
-part-combine-start-2 c = search needs
-
-part-combine-end-2 : tie.Need-part-combine-end-2
-part-combine-end-2 c = search needs
-
-slice-aggregate-combine : tie.Need-slice-aggregate-combine
-slice-aggregate-combine c = search needs
-
-combine-requires : tie.Need-combine-requires
-combine-requires c κs = search needs
-
-shared-slice-read-t22 : tie.Need-shared-slice-read-t22
-shared-slice-read-t22 c = search needs
+shared-slice-read-t20 : tie.Need-shared-slice-read-t20
+shared-slice-read-t20 c = search needs
 
 inverse-requires : tie.Need-inverse-requires
 inverse-requires c κs = search needs
 
-slice-aggregate-scale-add : tie.Need-slice-aggregate-scale-add
-slice-aggregate-scale-add c = search needs
+sum-requires : tie.Need-sum-requires
+sum-requires c κs = search needs
 
-slice-aggregate-scale-add-2 : tie.Need-slice-aggregate-scale-add-2
-slice-aggregate-scale-add-2 c = search needs
-
-scale-add-requires : tie.Need-scale-add-requires
-scale-add-requires c κs = search needs
-
-slice-aggregate-copy-2 : tie.Need-slice-aggregate-copy-2
-slice-aggregate-copy-2 c = search needs
-
-copy-requires-2 : tie.Need-copy-requires-2
-copy-requires-2 c κs = search needs
+mix-requires : tie.Need-mix-requires
+mix-requires c κs =
+    let w = c .before .before .before .before .before .before .before .before .before .before .before .before .before .before .before .before .pre in
+    let g = c .before .before .before .before .before .before .before .before .before .gather .ensures in
+    let r = w .0 .room 0 (w .1 .0) in
+    (omega (arith, r, g .0 .long), (omega (arith, r, g .0 .long), (omega (arith, g .1, w .1 .1), omega (arith, w .0 .small, g .0 .long))))
 
 same-length : tie.Need-same-length
 same-length c = search needs
 
+same-length-2 : tie.Need-same-length-2
+same-length-2 c = search needs
+
 returns : tie.Need-returns
 returns c =
-    first-made (c .before .before .before .before .before .before .before .before .before .before .before .before .before .before .before .before .before .before .before .before .before .before .before .args .weights .now) (c .before .before .before .before .before .before .before .before .before .before .before .before .before .before .before .before .before .before .before .before .before .before .before .args .slots .now) (c .before .before .before .before .before .before .before .before .before .before .before .before .before .before .before .before .before .before .copy .last .0) (c .before .before .before .before .before .before .before .before .before .before .before .before .combine .last .1 .1 .0) (c .before .before .before .before .before .before .scale-add .last .0) _ _ (omega arith) (c .before .before .before .before .before .before .before .before .before .before .before .before .before .before .before .before .before .before .copy .ensures) (c .before .before .before .before .before .before .before .before .before .before .before .before .combine .ensures)
-    (c .before .before .before .before .before .before .before .before .before .inverse .ensures) (c .before .before .before .before .before .before .scale-add .ensures) (c .before .before .copy2 .ensures)
+    let a = c .before .before .before .before .before .before .before .before .before .before .before .before .before .before .before .before .before .before .before .before .before .args in
+    let g = c .before .before .before .before .before .before .before .before .before .before .before .before .before .before .gather in (
+      first-made (a .weights .now) (a .at) (a .d) (a .n) _ _ (a .slots .now) (g .last .1 .0) (c .before .before .before .before .mix .last .0) (λ i. c .before .before .before .before .before .before .before .before .before .before .before .before .slice-known3 .given i .fits)
+          (g .ensures .0) (c .before .before .before .before .before .before .before .before .inverse .ensures) (c .before .before .before .before .before .before .before .sum .ensures) (c .before .before .before .before .mix .ensures .0),
+      c .before .before .before .before .mix .ensures .1 ∙ g .ensures .1,
+    )
 
 pub first-value-spec : {M : Type 1} → statement M
 first-value-spec =
     tie.close
     (tie.spec
-    slice-aggregate-copy
-    copy-requires
-    sub-combine
-    part-combine-start
-    part-combine-end
-    sub-combine-2
-    part-combine-start-2
-    part-combine-end-2
-    slice-aggregate-combine
-    combine-requires
-    shared-slice-read-t22
+    sub-gather
+    part-gather-start
+    part-gather-end
+    add-gather
+    gather-requires
+    shared-slice-read-t20
     inverse-requires
-    slice-aggregate-scale-add
-    slice-aggregate-scale-add-2
-    scale-add-requires
-    slice-aggregate-copy-2
-    copy-requires-2
+    sum-requires
+    mix-requires
     same-length
+    same-length-2
     returns)

@@ -1,0 +1,34 @@
+-- `plan_of` meets its contract.
+use borrow.Author.Needs.{needs}
+use mathlib.Core.Path.{refl}
+use native.Mathlib.Omega.{arith}
+use Rattle.stripe.proofs.Allowed.{allowed}
+use Rattle.mending.proofs.Planned.{planned}
+use Rattle.mending.proofs.plan.plan_of.Statement.{statement}
+use Rattle.mending.proofs.plan.plan_of.Tie as tie
+
+add-data-lost : tie.Need-add-data-lost
+add-data-lost c = let f = allowed (c .args .s) (c .pre .shape) in omega (arith, f .data-most, f .parity-most)
+
+data-lost-requires : tie.Need-data-lost-requires
+data-lost-requires c κs = let f = allowed (c .args .s) (c .pre .shape) in (omega (arith, f .parity-most, c .pre .few), c .pre .ascend)
+
+first-row-requires : tie.Need-first-row-requires
+first-row-requires c κs = let f = allowed (c .before .args .s) (c .before .pre .shape) in (omega (arith, f .parity-most, c .before .pre .few), f .data-most)
+
+row-step-requires : tie.Need-row-step-requires
+row-step-requires c κs = let f = allowed (c .before .before .args .s) (c .before .before .pre .shape) in (omega (arith, f .parity-most, c .before .before .pre .few), f .data-most)
+
+pivot-of-requires : tie.Need-pivot-of-requires
+pivot-of-requires c κs = search needs
+
+returns : tie.Need-returns
+returns c =
+    let a = c .before .before .before .before .args in
+    let e = c .before .before .before .data-lost .ensures in
+    (refl, planned (a .s) (a .lost) _ _ _ _ (c .before .before .before .before .pre) (e .0) (e .1) (c .pivot-of .ensures) (c .before .before .first-row .ensures) (c .before .row-step .ensures))
+
+pub plan-of-spec : {M : Type 1} → statement M
+plan-of-spec =
+    tie.close
+    (tie.spec add-data-lost data-lost-requires first-row-requires row-step-requires pivot-of-requires returns)

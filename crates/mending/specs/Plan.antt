@@ -1,0 +1,53 @@
+-- What is solved by: the lost data columns and the rows.
+use Prim.Native.Nat.{ℕ, _+_, _-_, _*_, _≤_, _<_}
+use mathlib.Core.Path.{_≡_}
+use mathlib.Core.Bool.{true}
+use mathlib.Core.Logic.{_⊎_}
+use mathlib.Core.List.{List, [], _∷_}
+use lib.ListN.{length, getD, take}
+use Rattle.stripe.specs.declared.Shape.{Shape}
+use Rattle.stripe.specs.Shape.{columns}
+use Rattle.stripe.specs.Stripe.{runs, among, Ascending}
+use Rattle.stripe.proofs.Survivors.{firstRow, rowStep}
+use Rattle.stripe.proofs.Lost.{lostData, rowLost}
+use Rattle.mending.specs.declared.lost.Lost.{Lost}
+use Rattle.mending.specs.declared.plan.Plan.{Plan}
+use Rattle.mending.specs.Lost.{lostList}
+
+-- positions counted from x on
+unfoldable pub less : ℕ → List ℕ → List ℕ
+less x [] = []
+less x (i ∷ is) = (i - x) ∷ less x is
+
+-- the lost positions, and the lost data columns
+abbrev pub lostIn : Plan → List ℕ
+lostIn p = lostList (p .lost)
+
+abbrev pub gone : Shape → Plan → List ℕ
+gone s p = lostData (s .k) (lostIn p)
+
+-- row j is solved by; is not
+abbrev pub Solver : Plan → ℕ → Type 0
+Solver p j = (v : ℕ) × ((v < p .count) × (p .first + p .step * v ≡ j))
+
+abbrev pub Other : Plan → ℕ → Type 0
+Other p j = Solver p j → ⊥
+
+-- where positions are counted from: 0, or in a plain stripe that has lost e data columns and no other the first of them
+abbrev pub PivotOf : Shape → Lost → ℕ → ℕ → Type 0
+PivotOf s w e x = (x ≡ 0) ⊎ ((s .t ≡ 0) × ((0 < e) × ((e ≡ w .count) × (x ≡ getD (w .at) 0 0))))
+
+-- the columns are the lost ones and the rows the first that survive; positions are counted from 0 on unless the stripe is plain and no row is lost
+pub record Planned (s : Shape) (p : Plan) : Type 0 where
+  pub three : length (p .lost .at) ≡ 3
+  pub few : p .lost .count ≤ 3
+  pub ascend : Ascending 0 (columns s) (lostIn p)
+  pub fits : length (lostIn p) ≤ s .r
+  pub many : p .count ≤ p .lost .count
+  pub front : take (p .count) (p .lost .at) ≡ gone s p
+  pub first-is : p .first ≡ firstRow (rowLost (s .k) (lostIn p))
+  pub step-is : p .step ≡ rowStep (rowLost (s .k) (lostIn p))
+  pub pivot-below : (v : ℕ) → v < p .count → p .pivot ≤ getD (p .lost .at) v 0
+  pub pivot-plain : s .r < runs s → p .pivot ≡ 0
+  pub pivot-whole : (j : ℕ) → among (s .k + j) (lostIn p) ≡ true → p .pivot ≡ 0
+  pub pivot-apart : (p .pivot ≡ 0) ⊎ ((s .t ≡ 0) × (p .pivot < s .k))

@@ -1,0 +1,78 @@
+// What to solve by, once for all places: which lost columns, which rows, and the powers of g that belong to them.
+use crate::lost::CAPACITY;
+use crate::lost::Lost;
+use crate::lost::data_lost;
+use crate::lost::first_row;
+use crate::lost::row_step;
+use crate::scalars::power;
+use stripe::Shape;
+ghost use mathlib.Core.Path.{_≡_};
+ghost use Prim.Native.Nat.{ℕ, _≤_, _<_};
+ghost use lib.ListN.{length, getD, take};
+ghost use Rattle.stripe.proofs.Errors.{points};
+ghost use Rattle.mending.specs.Restore.{Ready};
+ghost use Rattle.mending.specs.Plan.{PivotOf, Planned, less};
+
+// The first `count` lost positions are data columns, counted from `pivot` on; rows first, first + step, .. are solved by.
+pub struct Plan {
+    pub lost: Lost,
+    pub count: usize,
+    pub pivot: usize,
+    pub first: usize,
+    pub step: usize,
+}
+
+// The plan for a stripe of which a record's columns are lost.
+pub(crate) fn plan_of(s: Shape, lost: Lost) -> Plan
+    requires { ⌜ Ready s lost ⌝ }
+    ensures { λ p. ⌜ (p .lost ≡ lost) × Planned s p ⌝ }
+{
+    let k = s.k;
+    let r = s.r;
+    let count = data_lost(lost, k, k + r);
+    let first = first_row(lost, k);
+    let step = row_step(lost, k);
+    let pivot = pivot_of(s, lost, count);
+    Plan {
+        lost,
+        count,
+        pivot,
+        first,
+        step,
+    }
+}
+
+// The first lost column, where the stripe is plain and only data columns are lost, so that its weights are 1; else 0.
+fn pivot_of(s: Shape, lost: Lost, count: usize) -> usize
+    requires { ⌜ count ≤ lost .count ⌝ }
+    ensures { λ x. ⌜ PivotOf s lost count x ⌝ }
+{
+    if s.t != 0 {
+        return 0;
+    }
+    if count < lost.count {
+        return 0;
+    }
+    if count == 0 {
+        return 0;
+    }
+    let at = lost.at;
+    at[0]
+}
+
+// g^((i - x) * j) for each lost data column i.
+pub(crate) fn row_weights(p: Plan, x: usize, j: usize) -> [u8; CAPACITY]
+    requires { ⌜ (length (p .lost .at) ≡ 3) × ((p .count ≤ 3) × ((j < 3) × ((v : ℕ) → v < p .count → (x ≤ getD (p .lost .at) v 0) × (getD (p .lost .at) v 0 < 256)))) ⌝ }
+    ensures { λ w. ⌜ (length w ≡ 3) × (take (p .count) w ≡ points j (less x (take (p .count) (p .lost .at)))) ⌝ }
+{
+    let lost = p.lost;
+    let at = lost.at;
+    let mut w = [0u8; CAPACITY];
+    let mut v = 0;
+    while v < p.count {
+        let g = power((at[v] - x) * j);
+        w[v] = g.0;
+        v += 1;
+    }
+    w
+}

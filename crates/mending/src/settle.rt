@@ -1,0 +1,97 @@
+// The rows that are not solved by: with the errors added, one that survives must lack nothing, and one that is lost holds what it lacks.
+use crate::lost::is_lost;
+use crate::mix::gather;
+use crate::plan::Plan;
+use crate::plan::row_weights;
+use stripe::Shape;
+ghost use mathlib.Core.Path.{_≡_};
+ghost use mathlib.Core.Bool.{false};
+ghost use Prim.Native.Nat.{ℕ, _+_, _*_, _≤_, _<_};
+ghost use lib.ListN.{length, getD};
+ghost use Rattle.stripe.specs.Stripe.{among};
+ghost use Rattle.stripe.proofs.Errors.{points as powers};
+ghost use Rattle.mending.specs.Lost.{lostList};
+ghost use Rattle.mending.specs.Slots.{Gathered};
+ghost use Rattle.mending.specs.Plan.{less, gone, Solver, Other};
+ghost use Rattle.mending.specs.Scratch.{Buffers, Settles, RowSettles, Says};
+
+// Whether each row that survives lacks nothing.
+pub(crate) fn settle(s: Shape, p: Plan, slots: &mut [u8], spare: &mut [u8]) -> bool
+    requires { ⌜ Buffers s p (length (now slots)) × (s .l ≤ length (now spare)) ⌝ }
+    ensures { λ v. ⌜ Settles s p (now (slots .entry)) v (now (slots .exit)) ⌝ }
+{
+    let r = s.r;
+    let mut j = 0;
+    while j < r {
+        if !settle_row(s, p, j, slots, spare) {
+            return false;
+        }
+        j += 1;
+    }
+    true
+}
+
+// Whether row j is one of those solved by, or is lost, or lacks nothing.
+fn settle_row(s: Shape, p: Plan, j: usize, slots: &mut [u8], spare: &mut [u8]) -> bool
+    requires { ⌜ Buffers s p (length (now slots)) × ((s .l ≤ length (now spare)) × (j < s .r)) ⌝ }
+    ensures { λ v. ⌜ RowSettles s p j (now (slots .entry)) v (now (slots .exit)) × (length (now (spare .exit)) ≡ length (now (spare .entry))) ⌝ }
+{
+    if solves(p, j) {
+        return true;
+    }
+    finish(s, p, j, slots, spare);
+    clean(s, p, j, slots)
+}
+
+// Whether row j is one of those solved by.
+fn solves(p: Plan, j: usize) -> bool
+    requires { ⌜ (p .count ≤ 3) × ((p .first ≤ 3) × (p .step ≤ 3)) ⌝ }
+    ensures { λ v. ⌜ Says v (Solver p j) ⌝ }
+{
+    let mut v = 0;
+    while v < p.count {
+        if p.first + p.step * v == j {
+            return true;
+        }
+        v += 1;
+    }
+    false
+}
+
+// To row j, which is none of those, row j of the errors.
+fn finish(s: Shape, p: Plan, j: usize, slots: &mut [u8], spare: &mut [u8])
+    requires { ⌜ Buffers s p (length (now slots)) × ((s .l ≤ length (now spare)) × ((j < s .r) × Other p j)) ⌝ }
+    ensures { λ _. ⌜ Gathered (powers j (less (p .pivot) (gone s p))) (j * s .l) (p .first * s .l) (p .step * s .l) (s .l) (now (slots .entry)) (now (slots .exit)) × (length (now (spare .exit)) ≡ length (now (spare .entry))) ⌝ }
+{
+    let l = s.l;
+    let count = p.count;
+    let w = row_weights(p, p.pivot, j);
+    gather(&w[..count], slots, j * l, p.first * l, p.step * l, l, spare);
+}
+
+// Whether row j is lost or zero.
+fn clean(s: Shape, p: Plan, j: usize, slots: &[u8]) -> bool
+    requires { ⌜ (p .lost .count ≤ 3) × ((s .k ≤ 255) × ((j < 3) × (j * s .l + s .l ≤ length (now slots)))) ⌝ }
+    ensures { λ v. ⌜ Says v (among (s .k + j) (lostList (p .lost)) ≡ false → (y : ℕ) → y < s .l → getD (now (slots .entry)) (j * s .l + y) 0 ≡ 0) ⌝ }
+{
+    let l = s.l;
+    if is_lost(p.lost, s.k + j) {
+        return true;
+    }
+    let a = j * l;
+    let e = a + l;
+    all_zero(&slots[a..e])
+}
+
+// Whether every byte is zero.
+fn all_zero(a: &[u8]) -> bool
+    ensures { λ v. ⌜ Says v ((q : ℕ) → q < length (now (a .entry)) → getD (now (a .entry)) q 0 ≡ 0) ⌝ }
+{
+    let mut z = 0u8;
+    let mut q = 0;
+    while q < a.len() {
+        z = z | a[q];
+        q += 1;
+    }
+    z == 0
+}

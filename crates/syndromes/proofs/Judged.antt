@@ -1,0 +1,74 @@
+-- Whether a stripe and a buffer are lent as they should be, and column x may be set apart: each test decides one field of `Lent`.
+use mathlib.Core.Path.{_≡_, refl, sym, _∙_}
+use mathlib.Core.Bool.{Bool, true, false, true≢false}
+use mathlib.Core.Logic.{_⊎_, inl, inr}
+use Prim.Native.Nat.{ℕ, _<_, _≤_}
+use native.Mathlib.Omega.{arith}
+use lib.Dec.{eqb, ltb}
+use borrow.Author.Tests.{eqb-true, eqb-false, ltb-true, lt-ltb}
+use Rattle.stripe.specs.declared.Shape.{Shape}
+use Rattle.stripe.specs.Shape.{shapeRefusal, parityLength, stripeLength}
+use Rattle.stripe.proofs.Places.{below-or-from}
+use Rattle.syndromes.specs.Syndromes.{Lent, Says}
+
+pub says-yes : (P : Type 0) → P → Says true P
+says-yes P h = record { so = λ e. h; not-so = λ e. absurd (true≢false e) }
+
+pub says-no : (P : Type 0) → (P → ⊥) → Says false P
+says-no P h = record { so = λ e. absurd (true≢false (sym e)); not-so = λ e. h }
+
+-- a column that is not the first is set apart in a plain stripe only, and is one of the data columns
+module _ (s : Shape) (x d p : ℕ) (later : x ≡ 0 → ⊥) where
+  pub not-prepared : (s .t ≡ 0 → ⊥) → Lent s x d p → ⊥
+  not-prepared n h = go (h .apart)
+    where
+      go : (x ≡ 0) ⊎ ((s .t ≡ 0) × (x < s .k)) → ⊥
+      go (inl e) = later e
+      go (inr e) = n (e .0)
+
+  not-past : s .k ≤ x → Lent s x d p → ⊥
+  not-past g h = go (h .apart)
+    where
+      go : (x ≡ 0) ⊎ ((s .t ≡ 0) × (x < s .k)) → ⊥
+      go (inl e) = later e
+      go (inr e) = omega (arith, e .1)
+
+  pub column-says : shapeRefusal s ≡ 0 → d ≡ stripeLength s → p ≡ parityLength s → s .t ≡ 0 → Says (ltb x (s .k)) (Lent s x d p)
+  column-says shape long room plain =
+      record {
+        so = λ e. record { shape = shape; long = long; room = room; apart = inr (plain, ltb-true x (s .k) e) };
+        not-so = λ e h. go e (h .apart);
+      }
+    where
+      go : ltb x (s .k) ≡ false → (x ≡ 0) ⊎ ((s .t ≡ 0) × (x < s .k)) → ⊥
+      go e (inl z) = later z
+      go e (inr z) = true≢false (sym (lt-ltb x (s .k) (z .1)) ∙ e)
+
+same-or-not : (m n : ℕ) → (m ≡ n) ⊎ (m ≡ n → ⊥)
+same-or-not m n = go (eqb m n) refl
+  where
+    go : (b : Bool) → eqb m n ≡ b → (m ≡ n) ⊎ (m ≡ n → ⊥)
+    go true e = inl (eqb-true m n e)
+    go false e = inr (eqb-false m n e)
+
+pub lent-or-not : (s : Shape) (x d p : ℕ) → Lent s x d p ⊎ (Lent s x d p → ⊥)
+lent-or-not s x d p = shape (same-or-not (shapeRefusal s) 0)
+  where
+    column : shapeRefusal s ≡ 0 → d ≡ stripeLength s → p ≡ parityLength s → (x ≡ 0) ⊎ (x ≡ 0 → ⊥) → (s .t ≡ 0) ⊎ (s .t ≡ 0 → ⊥)
+        → (x < s .k) ⊎ (s .k ≤ x) → Lent s x d p ⊎ (Lent s x d p → ⊥)
+    column a b c (inl e) t k = inl record { shape = a; long = b; room = c; apart = inl e }
+    column a b c (inr e) (inl t) (inl k) = inl record { shape = a; long = b; room = c; apart = inr (t, k) }
+    column a b c (inr e) (inl t) (inr k) = inr (not-past s x d p e k)
+    column a b c (inr e) (inr t) k = inr (not-prepared s x d p e t)
+
+    room : shapeRefusal s ≡ 0 → d ≡ stripeLength s → (p ≡ parityLength s) ⊎ (p ≡ parityLength s → ⊥) → Lent s x d p ⊎ (Lent s x d p → ⊥)
+    room a b (inl c) = column a b c (same-or-not x 0) (same-or-not (s .t) 0) (below-or-from x (s .k))
+    room a b (inr n) = inr (λ h. n (h .room))
+
+    long : shapeRefusal s ≡ 0 → (d ≡ stripeLength s) ⊎ (d ≡ stripeLength s → ⊥) → Lent s x d p ⊎ (Lent s x d p → ⊥)
+    long a (inl b) = room a b (same-or-not p (parityLength s))
+    long a (inr n) = inr (λ h. n (h .long))
+
+    shape : (shapeRefusal s ≡ 0) ⊎ (shapeRefusal s ≡ 0 → ⊥) → Lent s x d p ⊎ (Lent s x d p → ⊥)
+    shape (inl a) = long a (same-or-not d (stripeLength s))
+    shape (inr n) = inr (λ h. n (h .shape))

@@ -1,0 +1,4 @@
+pub mod Upwards
+pub mod Judged
+pub mod Filling
+pub mod Unique

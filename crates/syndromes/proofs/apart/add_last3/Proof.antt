@@ -1,0 +1,53 @@
+-- `add_last3` meets its contract: each block is added to its row.
+use borrow.Author.Needs.{needs}
+use Rattle.syndromes.proofs.Upwards.{added-3}
+use Rattle.syndromes.proofs.apart.add_last3.Statement.{statement}
+use Rattle.syndromes.proofs.apart.add_last3.Tie as tie
+
+below2-requires : tie.Need-below2-requires
+below2-requires c κs = search needs
+
+plus-requires : tie.Need-plus-requires
+plus-requires c κs = search needs
+
+add-plus : tie.Need-add-plus
+add-plus c = search needs
+
+plus-requires-2 : tie.Need-plus-requires-2
+plus-requires-2 c κs = search needs
+
+row2-below-requires : tie.Need-row2-below-requires
+row2-below-requires c κs = search needs
+
+add-plus-2 : tie.Need-add-plus-2
+add-plus-2 c = search needs
+
+add-plus-3 : tie.Need-add-plus-3
+add-plus-3 c = search needs
+
+plus-requires-3 : tie.Need-plus-requires-3
+plus-requires-3 c κs = search needs
+
+same-length : tie.Need-same-length
+same-length c = search needs
+
+returns : tie.Need-returns
+returns c =
+    let h = c .before .before .before .before .before .before .before .before .before .before .before .before .before .before .before .before .before .before .before .before .before .pre in
+    let v = c .before .before .before .before .before .before .before .before .before .before .before .before .before .before .before .before .before .before .below2 .ensures in
+    added-3 _ _ _ _ _ _ (h .0 .fits) (h .0 .within) _ _ _ _ (v .0) (v .1) (c .before .before .before .before .before .before .before .before .before .before .before .before .before .before .plus .ensures) _ _ _ (c .before .before .before .before .before .row2-below .ensures) (c .before .before .before .before .before .before .before .before .plus2 .ensures) (c .before .before .plus3 .ensures) (h .1)
+
+pub add-last3-spec : {M : Type 1} → statement M
+add-last3-spec =
+    tie.close
+    (tie.spec
+    below2-requires
+    plus-requires
+    add-plus
+    plus-requires-2
+    row2-below-requires
+    add-plus-2
+    add-plus-3
+    plus-requires-3
+    same-length
+    returns)

@@ -1,0 +1,146 @@
+-- `below3` meets its contract: each array holds its row of the columns before number i.
+use Prim.Native.Nat.{_+_, _*_, _-_, _≤_}
+use mathlib.Core.Path.{_≡_}
+use native.Mathlib.Omega.{arith}
+use lib.Dec.{lit<}
+use lib.ListN.{length}
+use borrow.Author.Needs.{needs}
+use Rattle.field.specs.Bytes.{Bytes}
+use Rattle.syndromes.proofs.Upwards.{Risen, start, turn, done, column-within, back-0, back-1, back-2}
+use Rattle.syndromes.proofs.apart.below3.Statement.{statement}
+use Rattle.syndromes.proofs.apart.below3.Tie as tie
+
+abbrev Inv-loop : tie.InvT-loop
+Inv-loop stripe k l x from n p row0₀ row1₀ row2₀ i₀ o₀ row0 row1 row2 i o = (i ≤ x) × (o ≡ i * l + from) × Risen stripe k l from n 64 0 i row0 × Risen stripe k l from n 64 1 i row1 × Risen stripe k l from n 64 2 i row2
+
+abbrev μ-loop : tie.MeasureT-loop
+μ-loop stripe k l x from n p row0₀ row1₀ row2₀ i₀ o₀ row0 row1 row2 i o = x - i
+
+mul-p : tie.Need-mul-p Inv-loop μ-loop
+mul-p c = search needs
+
+add-p : tie.Need-add-p Inv-loop μ-loop
+add-p c = search needs
+
+bytes-at-requires : tie.Need-bytes-at-requires Inv-loop μ-loop
+bytes-at-requires c κs = search needs
+
+add-bytes-at : tie.Need-add-bytes-at Inv-loop μ-loop
+add-bytes-at c = search needs
+
+bytes-at-requires-2 : tie.Need-bytes-at-requires-2 Inv-loop μ-loop
+bytes-at-requires-2 c κs = search needs
+
+add-bytes-at-2 : tie.Need-add-bytes-at-2 Inv-loop μ-loop
+add-bytes-at-2 c = search needs
+
+add-bytes-at-3 : tie.Need-add-bytes-at-3 Inv-loop μ-loop
+add-bytes-at-3 c = search needs
+
+bytes-at-requires-3 : tie.Need-bytes-at-requires-3 Inv-loop μ-loop
+bytes-at-requires-3 c κs = search needs
+
+loop-holds : tie.Need-loop-holds Inv-loop μ-loop
+loop-holds c =
+    let a = c .before .before .before .before .args in
+    let known : Bytes (a .stripe .now) = λ i. c .before .before .before .shared-slice-known .given i .fits in (
+      search needs,
+      search needs,
+      start _ _ _ _ _ _ 0 _ _ known (omega arith) (c .before .before .bytes-at .ensures .0) (c .before .before .bytes-at .ensures .1),
+      start _ _ _ _ _ _ 1 _ _ known (omega arith) (c .before .bytes-at2 .ensures .0) (c .before .bytes-at2 .ensures .1),
+      start _ _ _ _ _ _ 2 _ _ known (omega arith) (c .bytes-at3 .ensures .0) (c .bytes-at3 .ensures .1),
+    )
+
+within : (c : tie.In-loop Inv-loop μ-loop)
+    → (c .before .loop .o + c .before .before .before .before .before .before .args .n ≤ length (c .before .before .before .before .before .before .args .stripe .now))
+    × (c .before .loop .o + c .before .before .before .before .before .before .args .l ≤ length (c .before .before .before .before .before .before .args .stripe .now))
+within c =
+    let a = c .before .before .before .before .before .before .args in
+    let at = c .before .loop in
+    column-within _ (a .k) (a .l) 3 (a .x) (a .from) (a .n) (at .i) (at .o) (c .before .before .before .before .before .before .pre) (lit< tt) (c .loop-test .taken) (at .inv .1)
+
+add-e : tie.Need-add-e Inv-loop μ-loop
+add-e c = omega (arith, within c .0)
+
+sub-d : tie.Need-sub-d Inv-loop μ-loop
+sub-d c = search needs
+
+part-d-start : tie.Need-part-d-start Inv-loop μ-loop
+part-d-start c = search needs
+
+part-d-end : tie.Need-part-d-end Inv-loop μ-loop
+part-d-end c = omega (arith, within c .0)
+
+slice-aggregate-add : tie.Need-slice-aggregate-add Inv-loop μ-loop
+slice-aggregate-add c = search needs
+
+add-requires : tie.Need-add-requires Inv-loop μ-loop
+add-requires c κs = search needs
+
+slice-aggregate-halve-add : tie.Need-slice-aggregate-halve-add Inv-loop μ-loop
+slice-aggregate-halve-add c = search needs
+
+halve-add-requires : tie.Need-halve-add-requires Inv-loop μ-loop
+halve-add-requires c κs = search needs
+
+slice-aggregate-quarter-add : tie.Need-slice-aggregate-quarter-add Inv-loop μ-loop
+slice-aggregate-quarter-add c = search needs
+
+quarter-add-requires : tie.Need-quarter-add-requires Inv-loop μ-loop
+quarter-add-requires c κs = search needs
+
+add-i : tie.Need-add-i Inv-loop μ-loop
+add-i c = search needs
+
+add-o : tie.Need-add-o Inv-loop μ-loop
+add-o c = omega (arith, within (c .before .before .before .before .before .before .before .before .before .before) .1)
+
+loop-less : tie.Need-loop-less Inv-loop μ-loop
+loop-less c = search needs
+
+loop-again : tie.Need-loop-again Inv-loop μ-loop
+loop-again c =
+    let t = c .before .before .before .before .before .before .before .before .before .before in
+    let at = t .before .loop in
+    let a = t .before .before .before .before .before .before .args in
+    let known : Bytes (a .stripe .now) = λ i. t .before .before .before .before .before .shared-slice-known .given i .fits in (
+      search needs,
+      omega arith,
+      turn _ _ _ _ _ _ 0 _ _ _ _ _ back-0 known (omega arith) (at .inv .1) (within t .0) (at .inv .2) (c .before .before .before .before .before .before .before .add .ensures),
+      turn _ _ _ _ _ _ 1 _ _ _ _ _ back-1 known (omega arith) (at .inv .1) (within t .0) (at .inv .3) (c .before .before .before .before .halve-add .ensures),
+      turn _ _ _ _ _ _ 2 _ _ _ _ _ back-2 known (omega arith) (at .inv .1) (within t .0) (at .inv .4) (c .before .quarter-add .ensures),
+    )
+
+returns : tie.Need-returns Inv-loop μ-loop
+returns c = (done _ _ _ _ _ _ 0 (c .before .loop .i) _ _ (c .before .loop .inv .0) (c .loop-test .left) (c .before .loop .inv .2), (done _ _ _ _ _ _ 1 (c .before .loop .i) _ _ (c .before .loop .inv .0) (c .loop-test .left) (c .before .loop .inv .3), done _ _ _ _ _ _ 2 (c .before .loop .i) _ _ (c .before .loop .inv .0) (c .loop-test .left) (c .before .loop .inv .4)))
+
+pub below3-spec : {M : Type 1} → statement M
+below3-spec =
+    tie.close
+    (tie.spec
+    Inv-loop
+    μ-loop
+    mul-p
+    add-p
+    bytes-at-requires
+    add-bytes-at
+    bytes-at-requires-2
+    add-bytes-at-2
+    add-bytes-at-3
+    bytes-at-requires-3
+    loop-holds
+    add-e
+    sub-d
+    part-d-start
+    part-d-end
+    slice-aggregate-add
+    add-requires
+    slice-aggregate-halve-add
+    halve-add-requires
+    slice-aggregate-quarter-add
+    quarter-add-requires
+    add-i
+    add-o
+    loop-less
+    loop-again
+    returns)

@@ -1,0 +1,60 @@
+-- `fill_apart` meets its contract: the columns from x on are encoded, and what is below is added.
+use native.Mathlib.Omega.{arith}
+use native.Mathlib.Nat.{mul-le-mul-right}
+use Rattle.syndromes.proofs.Upwards.{encoded-upper, apart-done}
+use borrow.Author.Needs.{needs}
+use Rattle.syndromes.proofs.apart.fill_apart.Statement.{statement}
+use Rattle.syndromes.proofs.apart.fill_apart.Tie as tie
+
+sub-new : tie.Need-sub-new
+sub-new c = search needs
+
+new-requires : tie.Need-new-requires
+new-requires c κs = search needs
+
+mul-from : tie.Need-mul-from
+mul-from c = omega (arith, mul-le-mul-right (c .before .before .before .args .l) (c .before .before .before .pre .within))
+
+mul-to : tie.Need-mul-to
+mul-to c = search needs
+
+sub-encode : tie.Need-sub-encode
+sub-encode c = omega (arith, mul-le-mul-right (c .before .before .before .args .l) (c .before .before .before .pre .within))
+
+part-encode-start : tie.Need-part-encode-start
+part-encode-start c = omega (arith, mul-le-mul-right (c .before .before .before .args .l) (c .before .before .before .pre .within))
+
+part-encode-end : tie.Need-part-encode-end
+part-encode-end c = search needs
+
+encode-requires : tie.Need-encode-requires
+encode-requires c κs = search needs
+
+add-below-requires : tie.Need-add-below-requires
+add-below-requires c κs =
+    let s = c .before .before .before .before .before .before .before .before .before in
+    let n = c .before .before .before .before .before .before .new .ensures in
+    let up = encoded-upper (c .before .before .before .before .before .before .new .result) _ _ (c .before .before .before .encode .last .1 .1 .0) _ _ _ _ (s .pre) (n .0) (n .1 .0) (n .1 .1 .0) (n .1 .1 .1) (c .before .before .before .encode .ensures .1) in
+    (s .pre .long, (omega (arith, s .pre .within), (s .pre .some, (s .pre .most, up))))
+
+same-length : tie.Need-same-length
+same-length c = search needs
+
+returns : tie.Need-returns
+returns c = apart-done _ _ _ _ _ _ (c .before .before .add-below .ensures)
+
+pub fill-apart-spec : {M : Type 1} → statement M
+fill-apart-spec =
+    tie.close
+    (tie.spec
+    sub-new
+    new-requires
+    mul-from
+    mul-to
+    sub-encode
+    part-encode-start
+    part-encode-end
+    encode-requires
+    add-below-requires
+    same-length
+    returns)

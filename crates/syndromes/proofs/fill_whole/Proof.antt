@@ -1,0 +1,53 @@
+-- `fill_whole` meets its contract: the data are encoded, and what lies after them is added.
+use borrow.Author.Needs.{needs}
+use mathlib.Core.Path.{sym, ap, _∙_}
+use Rattle.lanes.specs.Lanes.{onto}
+use Rattle.stripe.proofs.Places.{data-of-length}
+use Rattle.syndromes.proofs.Filling.{rest, whole-lacks}
+use Rattle.syndromes.proofs.fill_whole.Statement.{statement}
+use Rattle.syndromes.proofs.fill_whole.Tie as tie
+
+mul-d : tie.Need-mul-d
+mul-d c = search needs
+
+slice-aggregate-encode : tie.Need-slice-aggregate-encode
+slice-aggregate-encode c = sym (data-of-length (c .before .before .before .args .s) (c .before .before .before .args .stripe .now) (c .before .before .before .pre .long))
+
+encode-requires : tie.Need-encode-requires
+encode-requires c κs = search needs
+
+sub-add : tie.Need-sub-add
+sub-add c = search needs
+
+part-add-start : tie.Need-part-add-start
+part-add-start c = search needs
+
+part-add-end : tie.Need-part-add-end
+part-add-end c = search needs
+
+add-requires : tie.Need-add-requires
+add-requires c κs = search needs
+
+same-length : tie.Need-same-length
+same-length c = search needs
+
+returns : tie.Need-returns
+returns c =
+    let s = c .before .before .before .before .before .before .before .before .before .before .before .before in
+    whole-lacks (s .args .s) (s .args .stripe .now) (s .args .out .now) _ _ (s .pre) (λ i. c .slice-known3 .given i .fits)
+    (c .before .before .before .before .before .before .before .encode .ensures .1)
+    (c .before .before .add .ensures ∙ ap (onto _ _) (rest (s .args .s) (s .args .stripe .now) (s .pre .long)))
+
+pub fill-whole-spec : {M : Type 1} → statement M
+fill-whole-spec =
+    tie.close
+    (tie.spec
+    mul-d
+    slice-aggregate-encode
+    encode-requires
+    sub-add
+    part-add-start
+    part-add-end
+    add-requires
+    same-length
+    returns)

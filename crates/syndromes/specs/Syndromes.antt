@@ -1,0 +1,36 @@
+-- Syndromes: the parity as it lies and the parity of the data as they lie, added; over the weights of one column.
+use Prim.Native.Nat.{ℕ, _+_, _*_, _<_}
+use mathlib.Core.Path.{_≡_}
+use mathlib.Core.Bool.{Bool, true, false}
+use mathlib.Core.Logic.{_⊎_}
+use mathlib.Core.List.{List}
+use lib.ListN.{length, getD}
+use Rattle.field.specs.Field.{_⊕_, _⊗_, gpow}
+use Rattle.field.specs.Bytes.{Bytes}
+use Rattle.stripe.specs.declared.Shape.{Shape}
+use Rattle.stripe.specs.Shape.{shapeRefusal, parityLength, stripeLength}
+use Rattle.stripe.specs.Stripe.{parityByte, dataOf}
+
+-- a whole stripe of d bytes, of an allowed shape, and a buffer of p bytes for its r rows; x is 0, or a data column of a plain stripe
+pub record Lent (s : Shape) (x d p : ℕ) : Type 0 where
+  pub shape : shapeRefusal s ≡ 0
+  pub long : d ≡ stripeLength s
+  pub room : p ≡ parityLength s
+  pub apart : (x ≡ 0) ⊎ ((s .t ≡ 0) × (x < s .k))
+
+-- row j, times the weight g^(j*x) of column x, is what parity column j as it lies is apart from the parity of the data as they lie
+pub record Syndromes (s : Shape) (x : ℕ) (xs ys : List ℕ) : Type 0 where
+  pub bytes : Bytes ys
+  pub long : length ys ≡ parityLength s
+  pub at : (j y : ℕ) → j < s .r → y < s .l
+      → gpow (j * x) ⊗ getD ys (j * s .l + y) 0 ≡ getD xs ((s .k + j) * s .l + y) 0 ⊕ parityByte s (dataOf s xs) j y
+
+-- the buffer held ys and then holds ys′: the syndromes, or where that is refused what it held
+pub record Filled (s : Shape) (x : ℕ) (xs ys ys′ : List ℕ) : Type 0 where
+  pub lent : Lent s x (length xs) (length ys) → Syndromes s x xs ys′
+  pub not-lent : (Lent s x (length xs) (length ys) → ⊥) → ys′ ≡ ys
+
+-- v says whether P holds
+pub record Says (v : Bool) (P : Type 0) : Type 0 where
+  pub so : v ≡ true → P
+  pub not-so : v ≡ false → P → ⊥

@@ -16,11 +16,11 @@ use Rattle.stripe.specs.Shape.{stripeLength}
 use Rattle.stripe.specs.Stripe.{across, rowAt, runLength, dataOf}
 use Rattle.stripe.proofs.Allowed.{Allowed, Prepared, prepared-run-length}
 use Rattle.stripe.proofs.Places.{below-or-from, place-lt, place-column, place-byte, place-split, place-column-lt, across-length, across-first, row-at-stripe, parity-below, parity-from, plain-parity}
-use Rattle.fold.specs.declared.Kind.{Kind}
-use Rattle.fold.specs.declared.Kind.the-variants.{A, B, C}
-use Rattle.fold.specs.Plan.{kindOf}
+use Rattle.plan.specs.declared.Kind.{Kind}
+use Rattle.plan.specs.declared.Kind.the-variants.{A, B, C}
+use Rattle.plan.specs.Plan.{kindOf}
 use Rattle.fold.specs.Fold.{runBytes, partBytes, readParity, readRow, runShare, share, readOf, disagreement, runCarried, carried}
-use Rattle.fold.proofs.Foldable.{IsA, IsB, IsC, runs-whole, run-pos}
+use Rattle.plan.proofs.Foldable.{IsA, IsB, IsC, runs-whole, run-pos}
 use Rattle.fold.proofs.Cut.{a-at, b-data-at, b-parity-at, c-at}
 
 -- bytes read across columns of other lengths

@@ -15,14 +15,14 @@ use Rattle.stripe.specs.declared.Shape.{Shape}
 use Rattle.stripe.specs.Shape.{stripeLength}
 use Rattle.stripe.proofs.Allowed.{Allowed, Prepared}
 use Rattle.stripe.proofs.Places.{place-lt}
-use Rattle.fold.specs.declared.Span.{Span}
-use Rattle.fold.specs.declared.Kind.{Kind}
-use Rattle.fold.specs.declared.Kind.the-variants.{A, B, C}
-use Rattle.fold.specs.Plan.{kindOf, foldRefusal, columnSpans, kindSpans, spansFrom, plan, bytesEach, bytesRead}
+use Rattle.plan.specs.declared.Span.{Span}
+use Rattle.plan.specs.declared.Kind.{Kind}
+use Rattle.plan.specs.declared.Kind.the-variants.{A, B, C}
+use Rattle.plan.specs.Plan.{kindOf, foldRefusal, columnSpans, kindSpans, spansFrom, plan, bytesEach, bytesRead}
 use Rattle.fold.specs.Fold.{runBytes, partBytes, parts, joined, named, cutOut, readOf}
-use Rattle.fold.proofs.Foldable.{IsA, IsB, IsC, Foldable, foldable, runs-whole}
-use Rattle.fold.proofs.Counted.{runs-sum}
-use Rattle.fold.proofs.Costs.{bytes-read}
+use Rattle.plan.proofs.Foldable.{IsA, IsB, IsC, Foldable, foldable, runs-whole}
+use Rattle.plan.proofs.Counted.{runs-sum}
+use Rattle.plan.proofs.Costs.{bytes-read}
 
 -- ---- spans one after the other, and the stripe that they name
 

@@ -14,15 +14,15 @@ use Rattle.stripe.specs.Column.{lentRefusal}
 use Rattle.coding.specs.Encode.{encoded}
 use Rattle.stripe.specs.Stripe.{across, rowAt, parity}
 use Rattle.stripe.proofs.Places.{parity-exact}
-use Rattle.fold.specs.declared.Kind.{Kind}
-use Rattle.fold.specs.declared.Kind.the-variants.{C}
-use Rattle.fold.specs.Plan.{foldRefusal, kindOf, bytesEach, bytesRead, wideShape}
+use Rattle.plan.specs.declared.Kind.{Kind}
+use Rattle.plan.specs.declared.Kind.the-variants.{C}
+use Rattle.plan.specs.Plan.{foldRefusal, kindOf, bytesEach, bytesRead, wideShape}
 use Rattle.fold.specs.Fold.{foldByte, parts, foldOf}
-use Rattle.fold.proofs.Foldable.{Foldable, foldable}
-use Rattle.fold.proofs.Costs.{bytes-read}
+use Rattle.plan.proofs.Foldable.{Foldable, foldable}
+use Rattle.plan.proofs.Costs.{bytes-read}
 use Rattle.fold.proofs.Cut.{joined-parts}
 use Rattle.fold.proofs.Sums.{all-read}
-use Rattle.fold.proofs.Stepped.{parts-count}
+use Rattle.fold.proofs.Summing.{parts-count}
 use Rattle.fold.proofs.Wide.{fold-length, fold-at, wide-parity}
 
 parts-each : (m n : ℕ) (xs : List ℕ) → length xs ≡ n * m → (i : ℕ) → i < length (parts m n xs) → length (getD (parts m n xs) i []) ≡ m

@@ -1,35 +1,44 @@
--- The wide parity is filled run by run: each run lies within the bytes read, and what each stripe adds to it is what the fold's definition says.
+-- The wide parity takes in a stripe run by run: each share lies within what is stored, and is what the fold's definition says.
 use mathlib.Core.Path.{_≡_, refl, sym, ap, ap₂, _∙_, subst}
-use mathlib.Core.Bool.{cond}
-use mathlib.Core.List.{List, [], _∷_, map}
+use mathlib.Core.Bool.{Bool}
+use mathlib.Core.List.{List}
 use mathlib.Core.Logic.{_⊎_, inl, inr}
 use Prim.Native.Nat.{ℕ, _+_, _-_, _*_, _/_, _%_, _<_, _≤_}
 use native.Mathlib.Nat.{add-mul, mul-assoc, mul-le-mul-right}
 use native.Mathlib.Omega.{arith}
-use lib.Dec.{ltb}
 use lib.ListN.{length, getD, take, drop}
 use lib.Seq.{ext-getD}
-use borrow.Author.Tests.{lt-ltb, le-ltb}
+use borrow.Author.Tests.{lt-ltb, le-ltb, eq-eqb, ne-eqb}
 use borrow.Rule.Slice.PartMut.{putMid}
 use Rattle.field.specs.Field.{_⊕_}
-use Rattle.field.specs.Row.{row}
+use Rattle.field.proofs.Bytes.{tabulate-length, tabulate-at}
 use Rattle.stripe.specs.declared.Shape.{Shape}
-use Rattle.stripe.specs.Stripe.{across, runs, runLength}
-use Rattle.stripe.proofs.Allowed.{Allowed, Prepared, plain-runs, prepared-runs, plain-run-length, prepared-run-length}
+use Rattle.stripe.specs.Stripe.{runs, runLength}
+use Rattle.stripe.proofs.Allowed.{Allowed, Prepared, allowed, plain-runs, prepared-runs, plain-run-length, prepared-run-length}
 use Rattle.stripe.proofs.Places.{below-or-from, place-lt, place-column, place-byte, place-split, place-column-lt, place-byte-lt}
-use Rattle.lanes.proofs.Parts.{part-length, back-length, back-inside, back-outside}
-use Rattle.fold.specs.declared.Kind.{Kind}
-use Rattle.fold.specs.declared.Kind.the-variants.{A, B, C}
+use Rattle.lanes.proofs.Parts.{part-length, part-at, back-length, back-inside, back-outside}
+use Rattle.plan.specs.declared.Kind.{Kind}
+use Rattle.plan.specs.declared.Kind.the-variants.{A, B, C}
+use Rattle.plan.specs.Plan.{foldRefusal, kindOf, bytesEach}
+use Rattle.plan.proofs.Foldable.{IsA, IsB, IsC, new-kinds, tests-passed, runs-whole}
+use Rattle.plan.proofs.Counted.{runs-sum}
 use Rattle.fold.specs.declared.steps.Share.{Share}
-use Rattle.fold.specs.declared.steps.Share.the-variants.{Stored, Row, Both}
-use Rattle.fold.specs.Plan.{foldRefusal, kindOf, bytesEach}
-use Rattle.fold.specs.Fold.{runBytes, partBytes, readParity, readRow, runShare, share, foldByte, parts, foldOf}
-use Rattle.fold.specs.Shares.{shareAt, Within, Holds, shareOf, columnBytes}
-use Rattle.fold.proofs.Foldable.{IsA, IsB, IsC, Foldable, foldable, runs-whole}
-use Rattle.fold.proofs.Counted.{runs-sum}
-use Rattle.fold.proofs.Wide.{fold-length, fold-at}
+use Rattle.fold.specs.declared.steps.Share.the-variants.{Read, Row, Both}
+use Rattle.fold.specs.Fold.{runBytes, partBytes, readParity, readRow, runShare, share}
+use Rattle.fold.specs.Shares.{ReadsParity, IsRows, shareAt, Within, kept, Summed, shareOf, taken}
 
--- ---- each share lies within the bytes read of a stripe
+-- a fold that reads parity is of kind A or B
+pub reads-kinds : (s : Shape) (f : ℕ) → ReadsParity s f → IsA s f ⊎ IsB s f
+reads-kinds s f h = go (new-kinds s f (h .shape) (h .new))
+  where
+    go : IsA s f ⊎ (IsB s f ⊎ IsC s f) → IsA s f ⊎ IsB s f
+    go (inl x) = inl x
+    go (inr (inl x)) = inr x
+    go (inr (inr x)) = absurd (h .kind (x .kind))
+
+pub reads-parity : (s : Shape) (n f : ℕ) → foldRefusal s n f ≡ 0 → (kindOf s f ≡ C → ⊥) → ReadsParity s f
+reads-parity s n f passed h =
+    let p = tests-passed s n f passed in record { shape = p .0; new = p .1 .1; kind = h }
 
 next-run : (b t q l : ℕ) → b < t → t * q ≡ l → b * q + q ≤ l
 next-run b t q l h e = omega (arith, mul-le-mul-right q h)
@@ -40,135 +49,146 @@ next-column i n l h = omega (arith, mul-le-mul-right l h)
 rest-run : (b r t q : ℕ) → r ≤ b → b < t → (b - r) * q + q ≤ (t - r) * q
 rest-run b r t q lo h = let g : b - r < t - r = omega arith in omega (arith, mul-le-mul-right q g)
 
-module _ (s : Shape) (f j b : ℕ) (a : Allowed s) (hj : j < f) (hb : b < runs s) where
-  a-within : IsA s f → Within (shareOf A s j b) (s .k) (columnBytes A s) (runLength s) (bytesEach A s f) (j * s .k)
-  unfolding shareOf columnBytes bytesEach Within
-  a-within h = subst (λ (q : ℕ). j * s .l + q ≤ f * s .l) (sym (plain-run-length s (h .plain))) (next-column j f (s .l) hj)
+-- ---- kind A: a run is a whole column
 
-  c-within : IsC s f → Within (shareOf C s j b) (s .k) (columnBytes C s) (runLength s) (bytesEach C s f) (j * s .k)
-  unfolding shareOf columnBytes bytesEach Within
-  c-within h = (omega (arith, plain-run-length s (h .plain)), (omega arith, omega arith))
+module _ (s : Shape) (f j b : ℕ) (plain : s .t ≡ 0) where
+  a-share : shareOf s j b ≡ Read (j * s .l)
+  unfolding shareOf
+  a-share = simp (eq-eqb (s .t) 0 plain)
 
-  module _ (h : Prepared s) (jt : j < s .t) where
-    bt : b < s .t
-    bt = subst (λ (x : ℕ). b < x) (prepared-runs s (let g = h .gains in omega arith)) hb
+  a-within : (n : ℕ) → j < f → Within (shareOf s j b) (runLength s) (bytesEach A s f) n
+  unfolding Within bytesEach
+  a-within n hj =
+      subst (λ (σ : Share). Within σ (runLength s) (f * s .l) n) (sym a-share)
+      (subst (λ (q : ℕ). j * s .l + q ≤ f * s .l) (sym (plain-run-length s plain)) (next-column j f (s .l) hj))
 
-    whole : s .t * runBytes s ≡ s .l
-    whole = runs-whole s a h
+  a-same : (xs rs : List ℕ) (e : ℕ) → b < runs s → shareAt (shareOf s j b) xs rs e ≡ share A s xs j (b * runLength s + e)
+  unfolding share shareAt
+  a-same xs rs e hb =
+      ap (λ (σ : Share). shareAt σ xs rs e) a-share
+      ∙ ap (λ (p : ℕ). getD xs (j * s .l + p) 0) (sym (ap (λ (x : ℕ). x * runLength s + e) none ∙ omega arith))
+    where
+      none : b ≡ 0
+      none = omega (arith, plain-runs s plain)
 
-    each-is : bytesEach B s f ≡ s .k * partBytes s + s .r * s .l
-    unfolding bytesEach
-    each-is = sym (runs-sum (s .k) (s .r) (s .t) (runBytes s) (s .l) whole)
+-- ---- kind B: the run and the row decide
 
-    in-parity : (i c : ℕ) → i < s .r → c < s .t → s .k * partBytes s + (i * s .l + c * runBytes s) + runBytes s ≤ bytesEach B s f
-    in-parity i c hi hc =
-        omega (arith, each-is, next-run c (s .t) (runBytes s) (s .l) hc whole, next-column i (s .r) (s .l) hi)
+module _ (s : Shape) (f j b : ℕ) (a : Allowed s) (h : Prepared s) (marked : s .t ≡ f) (hj : j < f) (hb : b < runs s) where
+  marked-not : s .t ≡ 0 → ⊥
+  marked-not e = let g = h .gains in omega arith
 
-    in-data : s .k * partBytes s ≤ bytesEach B s f
-    in-data = omega (arith, each-is)
+  bt : b < s .t
+  bt = subst (λ (x : ℕ). b < x) (prepared-runs s (let g = h .gains in omega arith)) hb
 
-    b-within-q : Within (shareOf B s j b) (s .k) (columnBytes B s) (runBytes s) (bytesEach B s f) (j * s .k)
-    unfolding shareOf columnBytes Within
-    b-within-q = go (below-or-from b (s .r)) (below-or-from j (s .r))
-      where
-        go : (b < s .r) ⊎ (s .r ≤ b) → (j < s .r) ⊎ (s .r ≤ j)
-            → Within (cond (ltb b (s .r))
-            (cond (ltb j (s .r)) (Stored (s .k * partBytes s + (j * s .l + b * runBytes s)))
-            (Both (s .k * partBytes s + (b * s .l + j * runBytes s)) b ((j - s .r) * runBytes s)))
-            (Row j ((b - s .r) * runBytes s))) (s .k) (partBytes s) (runBytes s) (bytesEach B s f) (j * s .k)
-        go (inl lb) (inl lj) = simp (lt-ltb b (s .r) lb, lt-ltb j (s .r) lj) (in-parity j b lj bt)
-        go (inl lb) (inr gj) =
-            let w : b ≤ j = omega arith in
-            simp (lt-ltb b (s .r) lb, le-ltb j (s .r) gj)
-            (in-parity b j lb jt, (rest-run j (s .r) (s .t) (runBytes s) gj jt, (in-data, mul-le-mul-right (s .k) w)))
-        go (inr gb) w = simp (le-ltb b (s .r) gb) (rest-run b (s .r) (s .t) (runBytes s) gb bt, (in-data, omega arith))
+  jt : j < s .t
+  jt = omega arith
 
-    b-within : Within (shareOf B s j b) (s .k) (columnBytes B s) (runLength s) (bytesEach B s f) (j * s .k)
-    b-within =
-        subst (λ (q : ℕ). Within (shareOf B s j b) (s .k) (columnBytes B s) q (bytesEach B s f) (j * s .k))
-        (sym (prepared-run-length s (let g = h .gains in omega arith))) b-within-q
+  whole : s .t * runBytes s ≡ s .l
+  whole = runs-whole s a h
 
-pub share-within : (s : Shape) (f j b : ℕ) → Allowed s → IsA s f ⊎ (IsB s f ⊎ IsC s f) → j < f → b < runs s
-    → Within (shareOf (kindOf s f) s j b) (s .k) (columnBytes (kindOf s f) s) (runLength s) (bytesEach (kindOf s f) s f) (j * s .k)
-share-within s f j b a (inl h) hj hb =
-    subst (λ (κ : Kind). Within (shareOf κ s j b) (s .k) (columnBytes κ s) (runLength s) (bytesEach κ s f) (j * s .k)) (sym (h .kind)) (a-within s f j b a hj hb h)
-share-within s f j b a (inr (inl h)) hj hb =
-    subst (λ (κ : Kind). Within (shareOf κ s j b) (s .k) (columnBytes κ s) (runLength s) (bytesEach κ s f) (j * s .k)) (sym (h .kind))
-    (b-within s f j b a hj hb (h .prepared) (subst (λ (x : ℕ). j < x) (sym (h .marked)) hj))
-share-within s f j b a (inr (inr h)) hj hb =
-    subst (λ (κ : Kind). Within (shareOf κ s j b) (s .k) (columnBytes κ s) (runLength s) (bytesEach κ s f) (j * s .k)) (sym (h .kind)) (c-within s f j b a hj hb h)
+  q-is : runLength s ≡ runBytes s
+  q-is = prepared-run-length s (let g = h .gains in omega arith)
 
--- ---- what a stripe adds to a run is its share there
+  from-parity : s .r ≤ b → shareOf s j b ≡ Row (j * partBytes s + (b - s .r) * runBytes s)
+  unfolding shareOf
+  from-parity gb = simp (ne-eqb (s .t) 0 marked-not, le-ltb b (s .r) gb)
 
-module _ (s : Shape) (f j b e : ℕ) (xs : List ℕ) (a : Allowed s) (hb : b < runs s) (he : e < runLength s) where
-  first-run : s .t ≡ 0 → b ≡ 0
-  first-run z = omega (arith, plain-runs s z)
+  below-below : b < s .r → j < s .r → shareOf s j b ≡ Read (s .k * partBytes s + (j * s .l + b * runBytes s))
+  unfolding shareOf
+  below-below lb lj = simp (ne-eqb (s .t) 0 marked-not, lt-ltb b (s .r) lb, lt-ltb j (s .r) lj)
 
-  plain-place : s .t ≡ 0 → b * runLength s + e ≡ e
-  plain-place z = ap (λ (x : ℕ). x * runLength s + e) (first-run z) ∙ omega arith
+  below-from : b < s .r → s .r ≤ j → shareOf s j b ≡ Both (s .k * partBytes s + (b * s .l + j * runBytes s)) (b * partBytes s + (j - s .r) * runBytes s)
+  unfolding shareOf
+  below-from lb gj = simp (ne-eqb (s .t) 0 marked-not, lt-ltb b (s .r) lb, le-ltb j (s .r) gj)
 
-  a-same : s .t ≡ 0 → share A s xs j (b * runLength s + e) ≡ shareAt (shareOf A s j b) (s .k) (columnBytes A s) xs e
-  unfolding share shareOf shareAt
-  a-same z = ap (λ (p : ℕ). getD xs (j * s .l + p) 0) (plain-place z)
+  in-parity : (i c : ℕ) → i < s .r → c < s .t → s .k * partBytes s + (i * s .l + c * runBytes s) + runBytes s ≤ bytesEach B s f
+  unfolding bytesEach
+  in-parity i c hi hc =
+      omega (arith, runs-sum (s .k) (s .r) (s .t) (runBytes s) (s .l) whole, next-run c (s .t) (runBytes s) (s .l) hc whole, next-column i (s .r) (s .l) hi)
 
-  c-same : s .t ≡ 0 → share C s xs j (b * runLength s + e) ≡ shareAt (shareOf C s j b) (s .k) (columnBytes C s) xs e
-  unfolding share shareOf shareAt columnBytes
-  c-same z = ap (λ (p : ℕ). row j (across xs (s .l) p 0 (s .k))) (plain-place z ∙ omega arith)
+  in-rows : (i c : ℕ) → i < f → s .r ≤ c → c < s .t → i * partBytes s + (c - s .r) * runBytes s + runBytes s ≤ f * partBytes s
+  in-rows i c hi lo hc = omega (arith, rest-run c (s .r) (s .t) (runBytes s) lo hc, next-column i f (partBytes s) hi)
 
-  module _ (h : Prepared s) where
-    q-is : runLength s ≡ runBytes s
-    q-is = prepared-run-length s (let g = h .gains in omega arith)
+  b-within : Within (shareOf s j b) (runLength s) (bytesEach B s f) (f * partBytes s)
+  unfolding Within
+  b-within = subst (λ (q : ℕ). Within (shareOf s j b) q (bytesEach B s f) (f * partBytes s)) (sym q-is) (go (below-or-from b (s .r)) (below-or-from j (s .r)))
+    where
+      by : (σ : Share) → shareOf s j b ≡ σ → Within σ (runBytes s) (bytesEach B s f) (f * partBytes s) → Within (shareOf s j b) (runBytes s) (bytesEach B s f) (f * partBytes s)
+      by σ e w = subst (λ (τ : Share). Within τ (runBytes s) (bytesEach B s f) (f * partBytes s)) (sym e) w
 
+      go : (b < s .r) ⊎ (s .r ≤ b) → (j < s .r) ⊎ (s .r ≤ j) → Within (shareOf s j b) (runBytes s) (bytesEach B s f) (f * partBytes s)
+      go (inl lb) (inl lj) = by _ (below-below lb lj) (in-parity j b lj bt)
+      go (inl lb) (inr gj) = by _ (below-from lb gj) (in-parity b j lb jt, in-rows b j (omega arith) gj jt)
+      go (inr gb) w = by _ (from-parity gb) (in-rows j b hj gb bt)
+
+  module _ (xs rs : List ℕ) (e : ℕ) (he : e < runLength s) (rows : IsRows s f xs rs) where
     he′ : e < runBytes s
     he′ = subst (λ (x : ℕ). e < x) q-is he
 
-    run-is : runShare s xs j ((b * runLength s + e) / runBytes s) ((b * runLength s + e) % runBytes s) ≡ runShare s xs j b e
-    run-is =
-        ap₂ (runShare s xs j) (ap (λ (x : ℕ). (b * x + e) / runBytes s) q-is ∙ place-column b he′) (ap (λ (x : ℕ). (b * x + e) % runBytes s) q-is ∙ place-byte b he′)
+    stored : (x y z : ℕ) → getD xs (x + (y + z) + e) 0 ≡ getD xs (x + (y + (z + e))) 0
+    stored x y z = ap (λ (i : ℕ). getD xs i 0) (omega arith)
 
-    run-same : runShare s xs j b e ≡ shareAt (shareOf B s j b) (s .k) (columnBytes B s) xs e
-    unfolding runShare readParity readRow shareOf shareAt columnBytes
+    row-stored : (i c : ℕ) → i < f → s .r ≤ c → c < s .t → getD rs (i * partBytes s + (c - s .r) * runBytes s + e) 0 ≡ readRow s xs i c e
+    unfolding readRow
+    row-stored i c hi lo hc =
+        ap (λ (x : ℕ). getD rs x 0) (omega arith)
+        ∙ rows .at i ((c - s .r) * runBytes s + e) hi (omega (arith, he′, rest-run c (s .r) (s .t) (runBytes s) lo hc))
+
+    run-same : shareAt (shareOf s j b) xs rs e ≡ runShare s xs j b e
+    unfolding runShare readParity shareAt
     run-same = go (below-or-from b (s .r)) (below-or-from j (s .r))
       where
-        stored : (x y z : ℕ) → getD xs (x + (y + (z + e))) 0 ≡ getD xs (x + (y + z) + e) 0
-        stored x y z = ap (λ (i : ℕ). getD xs i 0) (omega arith)
-
-        go : (b < s .r) ⊎ (s .r ≤ b) → (j < s .r) ⊎ (s .r ≤ j) → runShare s xs j b e ≡ shareAt (shareOf B s j b) (s .k) (columnBytes B s) xs e
+        go : (b < s .r) ⊎ (s .r ≤ b) → (j < s .r) ⊎ (s .r ≤ j) → shareAt (shareOf s j b) xs rs e ≡ runShare s xs j b e
         go (inl lb) (inl lj) =
-            simp (lt-ltb b (s .r) lb, lt-ltb j (s .r) lj) (stored (s .k * partBytes s) (j * s .l) (b * runBytes s))
+            ap (λ (σ : Share). shareAt σ xs rs e) (below-below lb lj)
+            ∙ simp (lt-ltb b (s .r) lb, lt-ltb j (s .r) lj) (stored (s .k * partBytes s) (j * s .l) (b * runBytes s))
         go (inl lb) (inr gj) =
-            simp (lt-ltb b (s .r) lb, le-ltb j (s .r) gj)
-            (ap (λ (x : ℕ). x ⊕ row b (across xs (partBytes s) ((j - s .r) * runBytes s + e) 0 (s .k))) (stored (s .k * partBytes s) (b * s .l) (j * runBytes s)))
-        go (inr gb) w = simp (le-ltb b (s .r) gb)
+            ap (λ (σ : Share). shareAt σ xs rs e) (below-from lb gj)
+            ∙ simp (lt-ltb b (s .r) lb, le-ltb j (s .r) gj)
+            (ap₂ _⊕_ (stored (s .k * partBytes s) (b * s .l) (j * runBytes s)) (row-stored b j (omega arith) gj jt))
+        go (inr gb) w =
+            ap (λ (σ : Share). shareAt σ xs rs e) (from-parity gb) ∙ simp (le-ltb b (s .r) gb) (row-stored j b hj gb bt)
 
-    b-same : share B s xs j (b * runLength s + e) ≡ shareAt (shareOf B s j b) (s .k) (columnBytes B s) xs e
+    b-same : shareAt (shareOf s j b) xs rs e ≡ share B s xs j (b * runLength s + e)
     unfolding share
-    b-same = run-is ∙ run-same
+    b-same =
+        run-same
+        ∙ sym (ap₂ (runShare s xs j) (ap (λ (x : ℕ). (b * x + e) / runBytes s) q-is ∙ place-column b he′) (ap (λ (x : ℕ). (b * x + e) % runBytes s) q-is ∙ place-byte b he′))
 
-  pub share-same : IsA s f ⊎ (IsB s f ⊎ IsC s f)
-      → share (kindOf s f) s xs j (b * runLength s + e) ≡ shareAt (shareOf (kindOf s f) s j b) (s .k) (columnBytes (kindOf s f) s) xs e
-  share-same (inl h) =
-      subst (λ (κ : Kind). share κ s xs j (b * runLength s + e) ≡ shareAt (shareOf κ s j b) (s .k) (columnBytes κ s) xs e) (sym (h .kind)) (a-same (h .plain))
-  share-same (inr (inl h)) =
-      subst (λ (κ : Kind). share κ s xs j (b * runLength s + e) ≡ shareAt (shareOf κ s j b) (s .k) (columnBytes κ s) xs e) (sym (h .kind)) (b-same (h .prepared))
-  share-same (inr (inr h)) =
-      subst (λ (κ : Kind). share κ s xs j (b * runLength s + e) ≡ shareAt (shareOf κ s j b) (s .k) (columnBytes κ s) xs e) (sym (h .kind)) (c-same (h .plain))
+-- ---- both kinds
 
-map-same : (u v : List ℕ → ℕ) (xss : List (List ℕ)) → ((xs : List ℕ) → u xs ≡ v xs) → map u xss ≡ map v xss
-map-same u v [] h = refl
-map-same u v (xs ∷ xss) h = ap₂ _∷_ (h xs) (map-same u v xss h)
+module _ (s : Shape) (f : ℕ) (reads : ReadsParity s f) where
+  good : Allowed s
+  good = allowed s (reads .shape)
+
+  pub share-within : (j b : ℕ) → j < f → b < runs s → Within (shareOf s j b) (runLength s) (bytesEach (kindOf s f) s f) (f * partBytes s)
+  share-within j b hj hb = go (reads-kinds s f reads)
+    where
+      go : IsA s f ⊎ IsB s f → Within (shareOf s j b) (runLength s) (bytesEach (kindOf s f) s f) (f * partBytes s)
+      go (inl h) =
+          subst (λ (κ : Kind). Within (shareOf s j b) (runLength s) (bytesEach κ s f) (f * partBytes s)) (sym (h .kind)) (a-within s f j b (h .plain) (f * partBytes s) hj)
+      go (inr h) =
+          subst (λ (κ : Kind). Within (shareOf s j b) (runLength s) (bytesEach κ s f) (f * partBytes s)) (sym (h .kind)) (b-within s f j b good (h .prepared) (h .marked) hj hb)
+
+  share-same : (j b e : ℕ) (xs rs : List ℕ) → j < f → b < runs s → e < runLength s → IsRows s f xs rs
+      → shareAt (shareOf s j b) xs rs e ≡ share (kindOf s f) s xs j (b * runLength s + e)
+  share-same j b e xs rs hj hb he rows = go (reads-kinds s f reads)
+    where
+      go : IsA s f ⊎ IsB s f → shareAt (shareOf s j b) xs rs e ≡ share (kindOf s f) s xs j (b * runLength s + e)
+      go (inl h) =
+          subst (λ (κ : Kind). shareAt (shareOf s j b) xs rs e ≡ share κ s xs j (b * runLength s + e)) (sym (h .kind)) (a-same s f j b (h .plain) xs rs e hb)
+      go (inr h) =
+          subst (λ (κ : Kind). shareAt (shareOf s j b) xs rs e ≡ share κ s xs j (b * runLength s + e)) (sym (h .kind)) (b-same s f j b good (h .prepared) (h .marked) hj hb xs rs e he rows)
 
 -- ---- run by run
 
--- after the i first runs
-pub record Filled (s : Shape) (n f : ℕ) (d ys : List ℕ) (i : ℕ) : Type 0 where
-  pub long : length ys ≡ f * s .l
-  pub at : (x : ℕ) → x < i * runLength s → getD ys x 0 ≡ getD (foldOf s n f d) x 0
+-- after the i first runs: they are taken in, and the others are as they were
+pub record TakenTo (s : Shape) (f : ℕ) (first : Bool) (xs ys zs : List ℕ) (i : ℕ) : Type 0 where
+  pub long : length zs ≡ f * s .l
+  pub below : (x : ℕ) → x < i * runLength s → getD zs x 0 ≡ getD (taken s f first xs ys) x 0
+  pub above : (x : ℕ) → i * runLength s ≤ x → getD zs x 0 ≡ getD ys x 0
 
-module _ (s : Shape) (n f : ℕ) (d : List ℕ) (passed : foldRefusal s n f ≡ 0) where
-  able : Foldable s n f
-  able = foldable s n f passed
-
+module _ (s : Shape) (f : ℕ) (reads : ReadsParity s f) (first : Bool) (xs rs ys : List ℕ) (rows : IsRows s f xs rs) where
   abbrev R : ℕ
   R = runs s
 
@@ -176,7 +196,10 @@ module _ (s : Shape) (n f : ℕ) (d : List ℕ) (passed : foldRefusal s n f ≡ 
   Q = runLength s
 
   whole-cut : R * Q ≡ s .l
-  whole-cut = able .shape .cut
+  whole-cut = good s f reads .cut
+
+  all-cut : f * s .l ≡ f * R * Q
+  all-cut = ap (λ (y : ℕ). f * y) (sym whole-cut) ∙ sym (mul-assoc f R Q)
 
   run-place : (i e : ℕ) → i * Q + e ≡ i / R * s .l + (i % R * Q + e)
   run-place i e =
@@ -184,102 +207,94 @@ module _ (s : Shape) (n f : ℕ) (d : List ℕ) (passed : foldRefusal s n f ≡ 
       let y : i * Q ≡ i / R * R * Q + i % R * Q = ap (λ (z : ℕ). z * Q) (sym (place-split i R)) ∙ add-mul (i / R * R) (i % R) Q in
       omega (arith, x, y)
 
-  pub run-row : (i : ℕ) → i < f * R → i / R < f
-  run-row i h = place-column-lt i f R h
+  run-in : (i len : ℕ) → i < f * R → len ≡ f * s .l → i * Q + Q ≤ len
+  run-in i len h e = omega (arith, all-cut, mul-le-mul-right Q h)
 
-  pub run-number : (i : ℕ) → i < f * R → i % R < R
-  run-number i h = place-byte-lt i f R h
+  -- what is taken in at place e of run i
+  taken-at : (i e : ℕ) → i < f * R → e < Q
+      → getD (taken s f first xs ys) (i * Q + e) 0 ≡ kept first (i / R * s .k) (getD ys (i * Q + e) 0) ⊕ shareAt (shareOf s (i / R) (i % R)) xs rs e
+  unfolding taken
+  taken-at i e h he =
+      tabulate-at (f * s .l) _ (i * Q + e) (omega (arith, run-in i (f * s .l) h refl))
+      ∙ ap₂ (λ (j p : ℕ). kept first (j * s .k) (getD ys (i * Q + e) 0) ⊕ share (kindOf s f) s xs j p)
+      (ap (λ (x : ℕ). x / s .l) (run-place i e) ∙ place-column (i / R) inside)
+      (ap (λ (x : ℕ). x % s .l) (run-place i e) ∙ place-byte (i / R) inside)
+      ∙ ap (λ (v : ℕ). kept first (i / R * s .k) (getD ys (i * Q + e) 0) ⊕ v)
+      (sym (share-same s f reads (i / R) (i % R) e xs rs (place-column-lt i f R h) (place-byte-lt i f R h) he rows))
+    where
+      inside : i % R * Q + e < s .l
+      inside = subst (λ (x : ℕ). i % R * Q + e < x) whole-cut (place-lt (place-byte-lt i f R h) he)
 
-  pub run-in : (i len : ℕ) → i < f * R → len ≡ f * s .l → i * Q + Q ≤ len
-  run-in i len h e =
-      let x : f * s .l ≡ f * R * Q = ap (λ (y : ℕ). f * y) (sym whole-cut) ∙ sym (mul-assoc f R Q) in
-      omega (arith, x, mul-le-mul-right Q h)
+  pub take-start : length ys ≡ f * s .l → TakenTo s f first xs ys ys 0
+  take-start e = record { long = e; below = λ x h. absurd (omega arith); above = λ x h. refl }
 
-  pub run-within : (i : ℕ) → i < f * R
-      → Within (shareOf (kindOf s f) s (i / R) (i % R)) (s .k) (columnBytes (kindOf s f) s) Q (bytesEach (kindOf s f) s f) (i / R * s .k)
-  run-within i h = share-within s f (i / R) (i % R) (able .shape) (able .kinds) (run-row i h) (run-number i h)
-
-  abbrev value : ℕ → ℕ → ℕ
-  value i e = row (i / R * s .k) (map (λ xs. shareAt (shareOf (kindOf s f) s (i / R) (i % R)) (s .k) (columnBytes (kindOf s f) s) xs e) (parts (bytesEach (kindOf s f) s f) n d))
-
-  value-is : (i e : ℕ) → i < f * R → e < Q → value i e ≡ getD (foldOf s n f d) (i * Q + e) 0
-  unfolding foldByte
-  value-is i e h he =
-      sym (ap (λ (x : ℕ). getD (foldOf s n f d) x 0) (run-place i e)
-      ∙ fold-at s n f d (i / R) (i % R * Q + e) (run-row i h) (subst (λ (x : ℕ). i % R * Q + e < x) whole-cut (place-lt (run-number i h) he))
-      ∙ ap (row (i / R * s .k))
-      (map-same (λ xs. share (kindOf s f) s xs (i / R) (i % R * Q + e))
-      (λ xs. shareAt (shareOf (kindOf s f) s (i / R) (i % R)) (s .k) (columnBytes (kindOf s f) s) xs e)
-      (parts (bytesEach (kindOf s f) s f) n d)
-      (λ xs. share-same s f (i / R) (i % R) e xs (able .shape) (run-number i h) he (able .kinds))))
-
-  pub fill-start : (ys : List ℕ) → length ys ≡ f * s .l → Filled s n f d ys 0
-  fill-start ys e = record { long = e; at = λ x h. absurd (omega arith) }
-
-  pub fill-turn : (ys zs : List ℕ) (i : ℕ) → i < f * R → Filled s n f d ys i
-      → Holds (value i) (take (i * Q + Q - i * Q) (drop (i * Q) ys)) zs → Filled s n f d (putMid (i * Q) (i * Q + Q - i * Q) ys zs) (i + 1)
-  fill-turn ys zs i h w v =
+  take-turn : (zs ws : List ℕ) (i : ℕ) → i < f * R → TakenTo s f first xs ys zs i
+      → Summed first (i / R * s .k) (shareAt (shareOf s (i / R) (i % R)) xs rs) (take (i * Q + Q - i * Q) (drop (i * Q) zs)) ws
+      → TakenTo s f first xs ys (putMid (i * Q) (i * Q + Q - i * Q) zs ws) (i + 1)
+  take-turn zs ws i h w v =
       record {
-        long = back-length ys zs (i * Q) Q zs-long room ∙ w .long;
-        at = λ x l. go x l (below-or-from x (i * Q));
+        long = back-length zs ws (i * Q) Q ws-long room ∙ w .long;
+        below = λ x l. go x l (below-or-from x (i * Q));
+        above = λ x l. back-outside zs ws (i * Q) Q ws-long room x (inr (omega arith)) ∙ w .above x (omega arith);
       }
     where
-      room : i * Q + Q ≤ length ys
-      room = run-in i (length ys) h (w .long)
+      room : i * Q + Q ≤ length zs
+      room = run-in i (length zs) h (w .long)
 
-      part-long : length (take (i * Q + Q - i * Q) (drop (i * Q) ys)) ≡ Q
-      part-long = part-length ys (i * Q) Q room
+      part-long : length (take (i * Q + Q - i * Q) (drop (i * Q) zs)) ≡ Q
+      part-long = part-length zs (i * Q) Q room
 
-      zs-long : length zs ≡ Q
-      zs-long = v .long ∙ part-long
+      ws-long : length ws ≡ Q
+      ws-long = v .long ∙ part-long
 
-      go : (x : ℕ) → x < (i + 1) * Q → (x < i * Q) ⊎ (i * Q ≤ x) → getD (putMid (i * Q) (i * Q + Q - i * Q) ys zs) x 0 ≡ getD (foldOf s n f d) x 0
-      go x l (inl g) = back-outside ys zs (i * Q) Q zs-long room x (inl g) ∙ w .at x g
+      inside : (e : ℕ) → e < Q → getD (putMid (i * Q) (i * Q + Q - i * Q) zs ws) (i * Q + e) 0 ≡ getD (taken s f first xs ys) (i * Q + e) 0
+      inside e l =
+          back-inside zs ws (i * Q) Q ws-long room e l ∙ v .at e (omega (arith, part-long))
+          ∙ ap (λ (x : ℕ). kept first (i / R * s .k) x ⊕ shareAt (shareOf s (i / R) (i % R)) xs rs e) (part-at zs (i * Q) Q e l ∙ w .above (i * Q + e) (omega arith))
+          ∙ sym (taken-at i e h l)
+
+      go : (x : ℕ) → x < (i + 1) * Q → (x < i * Q) ⊎ (i * Q ≤ x) → getD (putMid (i * Q) (i * Q + Q - i * Q) zs ws) x 0 ≡ getD (taken s f first xs ys) x 0
+      go x l (inl g) = back-outside zs ws (i * Q) Q ws-long room x (inl g) ∙ w .below x g
       go x l (inr g) =
           let y : i * Q + (x - i * Q) ≡ x = omega arith in
-          let m : x - i * Q < Q = omega arith in
-          subst (λ (o : ℕ). getD (putMid (i * Q) (i * Q + Q - i * Q) ys zs) o 0 ≡ getD (foldOf s n f d) o 0) y
-          (back-inside ys zs (i * Q) Q zs-long room (x - i * Q) m ∙ v .at (x - i * Q) (omega (arith, part-long)) ∙ value-is i (x - i * Q) h m)
+          subst (λ (o : ℕ). getD (putMid (i * Q) (i * Q + Q - i * Q) zs ws) o 0 ≡ getD (taken s f first xs ys) o 0) y (inside (x - i * Q) (omega arith))
 
-  pub fill-done : (ys : List ℕ) (i : ℕ) → f * R ≤ i → Filled s n f d ys i → ys ≡ foldOf s n f d
-  fill-done ys i h w =
-      ext-getD 0 ys (foldOf s n f d) (w .long ∙ sym (fold-length s n f d))
-      (λ x l. w .at x (let e : f * s .l ≡ f * R * Q = ap (λ (y : ℕ). f * y) (sym whole-cut) ∙ sym (mul-assoc f R Q) in omega (arith, e, w .long, mul-le-mul-right Q h)))
+  pub take-done : (zs : List ℕ) (i : ℕ) → f * R ≤ i → TakenTo s f first xs ys zs i → zs ≡ taken s f first xs ys
+  unfolding taken
+  take-done zs i h w =
+      ext-getD 0 zs (taken s f first xs ys) (w .long ∙ sym (tabulate-length (f * s .l) _))
+      (λ x l. w .below x (omega (arith, all-cut, w .long, mul-le-mul-right Q h)))
 
   -- the same, of numbers that are those of the definitions
-  module _ (cut q each m : ℕ) (cut-is : cut ≡ R) (q-is : q ≡ Q) (each-is : each ≡ bytesEach (kindOf s f) s f) (m-is : m ≡ columnBytes (kindOf s f) s)
-      (i : ℕ) (below : i < f * cut) where
-    below-R : i < f * R
-    below-R = subst (λ (x : ℕ). i < f * x) cut-is below
+  module _ (cut q : ℕ) (cut-is : cut ≡ R) (q-is : q ≡ Q) (i : ℕ) (under : i < f * cut) where
+    under-R : i < f * R
+    under-R = subst (λ (x : ℕ). i < f * x) cut-is under
 
     pub row-lt : i / cut < f
-    row-lt = subst (λ (x : ℕ). i / x < f) (sym cut-is) (run-row i below-R)
+    row-lt = subst (λ (x : ℕ). i / x < f) (sym cut-is) (place-column-lt i f R under-R)
 
     pub number-lt : i % cut < 3
-    number-lt = subst (λ (x : ℕ). i % x < 3) (sym cut-is) (let g = able .shape .runs-most in omega (arith, run-number i below-R))
+    number-lt = subst (λ (x : ℕ). i % x < 3) (sym cut-is) (let g = good s f reads .runs-most in omega (arith, place-byte-lt i f R under-R))
 
     pub cut-in : (len : ℕ) → len ≡ f * s .l → i * q + q ≤ len
-    cut-in len e = subst (λ (x : ℕ). i * x + x ≤ len) (sym q-is) (run-in i len below-R e)
+    cut-in len e = subst (λ (x : ℕ). i * x + x ≤ len) (sym q-is) (run-in i len under-R e)
 
-    pub cut-within : (σ : Share) (p : ℕ) → σ ≡ shareOf (kindOf s f) s (i / cut) (i % cut) → p ≡ q → Within σ (s .k) m p each (i / cut * s .k)
-    cut-within σ p e g =
-        subst (λ (x : Share). Within x (s .k) m p each (i / cut * s .k)) (sym e)
-        (subst (λ (x : ℕ). Within (shareOf (kindOf s f) s (i / cut) (i % cut)) (s .k) m x each (i / cut * s .k)) (sym (g ∙ q-is))
-        (subst (λ (x : ℕ). Within (shareOf (kindOf s f) s (i / cut) (i % cut)) (s .k) x Q each (i / cut * s .k)) (sym m-is)
-        (subst (λ (x : ℕ). Within (shareOf (kindOf s f) s (i / cut) (i % cut)) (s .k) (columnBytes (kindOf s f) s) Q x (i / cut * s .k)) (sym each-is)
-        (subst (λ (x : ℕ). Within (shareOf (kindOf s f) s (i / x) (i % x)) (s .k) (columnBytes (kindOf s f) s) Q (bytesEach (kindOf s f) s f) (i / x * s .k)) (sym cut-is)
-        (run-within i below-R)))))
+    pub cut-within : (σ : Share) (p m n : ℕ) → σ ≡ shareOf s (i / cut) (i % cut) → p ≡ q → m ≡ bytesEach (kindOf s f) s f → n ≡ f * partBytes s
+        → Within σ p m n
+    cut-within σ p m n e pe me ne =
+        subst (λ (x : Share). Within x p m n) (sym (e ∙ ap₂ (shareOf s) (ap (λ (x : ℕ). i / x) cut-is) (ap (λ (x : ℕ). i % x) cut-is)))
+        (subst (λ (x : ℕ). Within (shareOf s (i / R) (i % R)) x m n) (sym (pe ∙ q-is))
+        (subst (λ (x : ℕ). Within (shareOf s (i / R) (i % R)) Q x n) (sym me)
+        (subst (λ (x : ℕ). Within (shareOf s (i / R) (i % R)) Q (bytesEach (kindOf s f) s f) x) (sym ne)
+        (share-within s f reads (i / R) (i % R) (place-column-lt i f R under-R) (place-byte-lt i f R under-R)))))
 
-    abbrev Turn : List ℕ → List ℕ → ℕ → ℕ → ℕ → ℕ → Share → Type 0
-    Turn ys zs c p e x σ =
-        Holds (λ (o : ℕ). row (i / c * s .k) (map (λ xs. shareAt σ (s .k) x xs o) (parts e n d))) (take (i * p + p - i * p) (drop (i * p) ys)) zs
-        → Filled s n f d (putMid (i * p) (i * p + p - i * p) ys zs) (i + 1)
+    abbrev Turn : List ℕ → List ℕ → ℕ → ℕ → Share → Type 0
+    Turn zs ws c p σ =
+        Summed first (i / c * s .k) (shareAt σ xs rs) (take (i * p + p - i * p) (drop (i * p) zs)) ws
+        → TakenTo s f first xs ys (putMid (i * p) (i * p + p - i * p) zs ws) (i + 1)
 
-    pub cut-turn : (ys zs : List ℕ) (σ : Share) → σ ≡ shareOf (kindOf s f) s (i / cut) (i % cut) → Filled s n f d ys i → Turn ys zs cut q each m σ
-    cut-turn ys zs σ e w =
-        subst (λ (x : Share). Turn ys zs cut q each m x) (sym e)
-        (subst (λ (x : ℕ). Turn ys zs cut x each m (shareOf (kindOf s f) s (i / cut) (i % cut))) (sym q-is)
-        (subst (λ (x : ℕ). Turn ys zs cut Q each x (shareOf (kindOf s f) s (i / cut) (i % cut))) (sym m-is)
-        (subst (λ (x : ℕ). Turn ys zs cut Q x (columnBytes (kindOf s f) s) (shareOf (kindOf s f) s (i / cut) (i % cut))) (sym each-is)
-        (subst (λ (x : ℕ). Turn ys zs x Q (bytesEach (kindOf s f) s f) (columnBytes (kindOf s f) s) (shareOf (kindOf s f) s (i / x) (i % x))) (sym cut-is)
-        (fill-turn ys zs i below-R w)))))
+    pub cut-turn : (zs ws : List ℕ) (σ : Share) → σ ≡ shareOf s (i / cut) (i % cut) → TakenTo s f first xs ys zs i → Turn zs ws cut q σ
+    cut-turn zs ws σ e w =
+        subst (λ (x : Share). Turn zs ws cut q x) (sym e)
+        (subst (λ (x : ℕ). Turn zs ws cut x (shareOf s (i / cut) (i % cut))) (sym q-is)
+        (subst (λ (x : ℕ). Turn zs ws x Q (shareOf s (i / x) (i % x))) (sym cut-is) (take-turn zs ws i under-R w)))

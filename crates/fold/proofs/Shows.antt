@@ -18,10 +18,10 @@ use Rattle.stripe.specs.Shape.{dataLength, stripeLength}
 use Rattle.stripe.specs.Stripe.{parityByte, parity, dataOf, Codeword}
 use Rattle.stripe.proofs.Allowed.{Allowed, Prepared}
 use Rattle.stripe.proofs.Places.{below-or-from, place-lt, place-column, place-byte, place-split, place-column-lt, parity-exact, parity-byte-lt, codeword-checks}
-use Rattle.fold.specs.declared.Kind.{Kind}
-use Rattle.fold.specs.Plan.{kindOf, foldRefusal, plan, wideShape}
+use Rattle.plan.specs.declared.Kind.{Kind}
+use Rattle.plan.specs.Plan.{kindOf, foldRefusal, plan, wideShape}
 use Rattle.fold.specs.Fold.{runBytes, foldOf, joined, wideData, cutOut, wideStripe, disagreement, parityNamed, runCarried, carried}
-use Rattle.fold.proofs.Foldable.{IsA, IsB, IsC, Foldable, foldable, runs-whole, run-pos}
+use Rattle.plan.proofs.Foldable.{IsA, IsB, IsC, Foldable, foldable, runs-whole, run-pos}
 use Rattle.fold.proofs.Wide.{fold-length, fold-bytes, answer-is, wide-data, wide-answer, wide-data-length, disagreement-sum}
 use Rattle.fold.proofs.Sums.{map-none, map-one}
 

@@ -16,8 +16,8 @@ use Rattle.field.proofs.Rows.{row-parts, row-nil, row-cons, row-add, row-lt}
 use Rattle.stripe.specs.declared.Shape.{Shape}
 use Rattle.stripe.specs.Stripe.{across}
 use Rattle.stripe.proofs.Places.{below-or-from, across-length, across-first, place-lt}
-use Rattle.fold.specs.declared.Kind.{Kind}
-use Rattle.fold.specs.declared.Kind.the-variants.{C}
+use Rattle.plan.specs.declared.Kind.{Kind}
+use Rattle.plan.specs.declared.Kind.the-variants.{C}
 use Rattle.fold.specs.Fold.{share, foldByte, joined}
 use Rattle.fold.proofs.Cut.{at-front, at-rest}
 

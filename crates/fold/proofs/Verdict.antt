@@ -8,10 +8,10 @@ use lib.Dec.{eqb, eqb·suc-zero}
 use lib.ListN.{length}
 use borrow.Author.Tests.{eq-eqb, ne-eqb, eqb-true}
 use Rattle.stripe.specs.declared.Shape.{Shape}
-use Rattle.fold.specs.Plan.{foldRefusal, bytesRead}
+use Rattle.plan.specs.Plan.{foldRefusal, bytesRead}
 use Rattle.fold.specs.Fold.{foldOf}
 use Rattle.fold.specs.Shares.{foldVerdict, foldFilled}
-use Rattle.fold.proofs.Foldable.{and-left, and-right}
+use Rattle.plan.proofs.Foldable.{and-left, and-right}
 
 module _ (s : Shape) (n f a b : ℕ) where
   pub by-refusal : (foldRefusal s n f ≡ 0 → ⊥) → foldRefusal s n f ≡ foldVerdict s n f a b

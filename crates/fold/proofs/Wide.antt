@@ -18,10 +18,10 @@ use Rattle.stripe.specs.Shape.{dataLength, stripeLength}
 use Rattle.stripe.specs.Stripe.{across, rowAt, runLength, parityByte, dataOf, parityOf}
 use Rattle.stripe.proofs.Allowed.{plain-run-length}
 use Rattle.stripe.proofs.Places.{place-lt, place-column, place-byte, parity-below, data-of-length}
-use Rattle.fold.specs.declared.Kind.{Kind}
-use Rattle.fold.specs.Plan.{kindOf, foldRefusal, bytesEach, plan, wideShape}
+use Rattle.plan.specs.declared.Kind.{Kind}
+use Rattle.plan.specs.Plan.{kindOf, foldRefusal, bytesEach, plan, wideShape}
 use Rattle.fold.specs.Fold.{share, foldByte, foldStripes, parts, foldOf, joined, wideData, cutOut, readOf, wideStripe, disagreement, carried}
-use Rattle.fold.proofs.Foldable.{Foldable, foldable}
+use Rattle.plan.proofs.Foldable.{Foldable, foldable}
 use Rattle.fold.proofs.Cut.{at-rest, joined-length, cut-parts, getD-read}
 use Rattle.fold.proofs.Carried.{shared}
 use Rattle.fold.proofs.Sums.{map-sum, rows-joined}

@@ -10,10 +10,10 @@ use Rattle.field.specs.Bytes.{tabulate}
 use Rattle.field.specs.Row.{row}
 use Rattle.stripe.specs.declared.Shape.{Shape}
 use Rattle.stripe.specs.Stripe.{across, parityByte, dataOf}
-use Rattle.fold.specs.declared.Span.{Span}
-use Rattle.fold.specs.declared.Kind.{Kind}
-use Rattle.fold.specs.declared.Kind.the-variants.{A, B, C}
-use Rattle.fold.specs.Plan.{kindOf, bytesEach, kindSpans, plan}
+use Rattle.plan.specs.declared.Span.{Span}
+use Rattle.plan.specs.declared.Kind.{Kind}
+use Rattle.plan.specs.declared.Kind.the-variants.{A, B, C}
+use Rattle.plan.specs.Plan.{kindOf, bytesEach, kindSpans, plan}
 
 -- ---- kind B: what is read of a stripe is a part of each data column, the runs r to t-1, then the parity columns
 

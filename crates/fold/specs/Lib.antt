@@ -1,4 +1,2 @@
-pub mod Plan
-pub mod Cost
 pub mod Fold
 pub mod Shares

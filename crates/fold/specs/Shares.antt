@@ -1,63 +1,68 @@
--- How the fold is computed: run by run of the wide parity, from the last stripe to the first. What a stripe adds to a run is a stored run, a row of
--- its data, or both.
-use Prim.Native.Nat.{ℕ, _+_, _-_, _*_, _<_, _≤_}
+-- How a fold that reads parity, kind A or B, is computed: stripe by stripe, from the last to the first, and run by run of the wide parity. What a
+-- stripe adds to a run is stored in the bytes read of it, in the rows of its data, or in both.
+use Prim.Native.Nat.{ℕ, _+_, _-_, _*_, _/_, _%_, _<_, _≤_}
 use mathlib.Core.Path.{_≡_}
-use mathlib.Core.Bool.{cond, _&&_}
+use mathlib.Core.Bool.{Bool, true, cond, _&&_}
 use mathlib.Core.List.{List}
 use lib.Dec.{ltb, eqb}
 use lib.ListN.{length, getD}
 use Rattle.field.specs.Field.{_⊕_, _⊗_, gpow}
+use Rattle.field.specs.Bytes.{tabulate}
 use Rattle.field.specs.Row.{row}
 use Rattle.stripe.specs.declared.Shape.{Shape}
+use Rattle.stripe.specs.Shape.{shapeRefusal}
 use Rattle.stripe.specs.Stripe.{across}
-use Rattle.fold.specs.declared.Kind.{Kind}
-use Rattle.fold.specs.declared.Kind.the-variants.{A, B, C}
+use Rattle.plan.specs.declared.Kind.the-variants.{C}
+use Rattle.plan.specs.Plan.{foldRefusal, newAllowed, kindOf, bytesRead}
 use Rattle.fold.specs.declared.steps.Share.{Share}
-use Rattle.fold.specs.declared.steps.Share.the-variants.{Stored, Row, Both}
-use Rattle.fold.specs.Plan.{foldRefusal, bytesRead}
-use Rattle.fold.specs.Fold.{runBytes, partBytes, foldOf}
+use Rattle.fold.specs.declared.steps.Share.the-variants.{Read, Row, Both}
+use Rattle.fold.specs.Fold.{runBytes, partBytes, share, foldOf}
 
--- the share at place e of the run, from the bytes read of a stripe, whose data are k columns of m bytes
-unfoldable pub shareAt : Share → ℕ → ℕ → List ℕ → ℕ → ℕ
-shareAt (Stored at) k m xs e = getD xs (at + e) 0
-shareAt (Row j from) k m xs e = row j (across xs m (from + e) 0 k)
-shareAt (Both at j from) k m xs e = getD xs (at + e) 0 ⊕ row j (across xs m (from + e) 0 k)
+-- a fold that reads parity, of an allowed shape and an allowed f
+pub record ReadsParity (s : Shape) (f : ℕ) : Type 0 where
+  pub shape : shapeRefusal s ≡ 0
+  pub new : newAllowed (s .t) f ≡ true
+  pub kind : kindOf s f ≡ C → ⊥
 
--- a share of q bytes lies within n bytes, and its row's weights are at most g^w
-unfoldable pub Within : Share → ℕ → ℕ → ℕ → ℕ → ℕ → Type 0
-Within (Stored at) k m q n w = at + q ≤ n
-Within (Row j from) k m q n w = (from + q ≤ m) × ((k * m ≤ n) × (j * k ≤ w))
-Within (Both at j from) k m q n w = (at + q ≤ n) × ((from + q ≤ m) × ((k * m ≤ n) × (j * k ≤ w)))
+-- ys holds rows 0 to f-1 of the data read of a stripe, one after the other; of a plain stripe no data are read
+pub record IsRows (s : Shape) (f : ℕ) (xs ys : List ℕ) : Type 0 where
+  pub long : length ys ≡ f * partBytes s
+  pub at : (j p : ℕ) → j < f → p < partBytes s → getD ys (j * partBytes s + p) 0 ≡ row j (across xs (partBytes s) p 0 (s .k))
 
--- the exponent by which column i of k is taken in, from the last to the first, so that what was there gets g^w in all
-unfoldable pub exponent : ℕ → ℕ → ℕ → ℕ → ℕ
-exponent w j k i = cond (eqb (i + 1) k) (w - j * i) j
+-- the share at place e of the run, from the bytes read of a stripe and its rows
+unfoldable pub shareAt : Share → List ℕ → List ℕ → ℕ → ℕ
+shareAt (Read at) xs ys e = getD xs (at + e) 0
+shareAt (Row at) xs ys e = getD ys (at + e) 0
+shareAt (Both at from) xs ys e = getD xs (at + e) 0 ⊕ getD ys (from + e) 0
 
--- ys is xs times g^w, and v e at each place e
-pub record Summed (w : ℕ) (v : ℕ → ℕ) (xs ys : List ℕ) : Type 0 where
+-- a share of q bytes lies within m bytes read and n bytes of rows
+unfoldable pub Within : Share → ℕ → ℕ → ℕ → Type 0
+Within (Read at) q m n = at + q ≤ m
+Within (Row at) q m n = at + q ≤ n
+Within (Both at from) q m n = (at + q ≤ m) × (from + q ≤ n)
+
+-- what stays of byte x as a stripe is taken in: nothing if it is the first to be, else x times g^w
+unfoldable pub kept : Bool → ℕ → ℕ → ℕ
+kept first w x = cond first 0 (gpow w ⊗ x)
+
+-- ys is what stays of xs, and v e, at each place e
+pub record Summed (first : Bool) (w : ℕ) (v : ℕ → ℕ) (xs ys : List ℕ) : Type 0 where
   pub long : length ys ≡ length xs
-  pub at : (e : ℕ) → e < length xs → getD ys e 0 ≡ gpow w ⊗ getD xs e 0 ⊕ v e
-
--- ys is as long as xs and holds v e at each place e
-pub record Holds (v : ℕ → ℕ) (xs ys : List ℕ) : Type 0 where
-  pub long : length ys ≡ length xs
-  pub at : (e : ℕ) → e < length xs → getD ys e 0 ≡ v e
+  pub at : (e : ℕ) → e < length xs → getD ys e 0 ≡ kept first w (getD xs e 0) ⊕ v e
 
 -- what a stripe adds to run b of wide row j
-unfoldable pub shareOf : Kind → Shape → ℕ → ℕ → Share
-shareOf A s j b = Stored (j * s .l)
-shareOf B s j b =
-    cond (ltb b (s .r))
-    (cond (ltb j (s .r)) (Stored (s .k * partBytes s + (j * s .l + b * runBytes s)))
-    (Both (s .k * partBytes s + (b * s .l + j * runBytes s)) b ((j - s .r) * runBytes s)))
-    (Row j ((b - s .r) * runBytes s))
-shareOf C s j b = Row j 0
+unfoldable pub shareOf : Shape → ℕ → ℕ → Share
+shareOf s j b =
+    cond (eqb (s .t) 0) (Read (j * s .l))
+    (cond (ltb b (s .r))
+    (cond (ltb j (s .r)) (Read (s .k * partBytes s + (j * s .l + b * runBytes s)))
+    (Both (s .k * partBytes s + (b * s .l + j * runBytes s)) (b * partBytes s + (j - s .r) * runBytes s)))
+    (Row (j * partBytes s + (b - s .r) * runBytes s)))
 
--- the bytes read of a data column
-unfoldable pub columnBytes : Kind → Shape → ℕ
-columnBytes A s = 0
-columnBytes B s = partBytes s
-columnBytes C s = s .l
+-- the wide parity ys once a stripe is taken in, from the bytes read of it
+unfoldable pub taken : Shape → ℕ → Bool → List ℕ → List ℕ → List ℕ
+taken s f first xs ys =
+    tabulate (f * s .l) (λ i. kept first (i / s .l * s .k) (getD ys i 0) ⊕ share (kindOf s f) s xs (i / s .l) (i % s .l))
 
 -- the answer's number: the refusal of the fold, then 5 for a lent buffer of another length
 unfoldable pub foldVerdict : Shape → ℕ → ℕ → ℕ → ℕ → ℕ

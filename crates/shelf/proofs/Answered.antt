@@ -5,7 +5,7 @@ use mathlib.Core.Bool.{Bool, false, cond}
 use lib.Dec.{ltb, eqb}
 use borrow.Author.Tests.{ne-eqb, lt-ltb, le-ltb}
 use Rattle.stripe.specs.declared.Shape.{Shape}
-use Rattle.fold.specs.Plan.{foldRefusal, columnsRead}
+use Rattle.plan.specs.Plan.{foldRefusal, columnsRead}
 use Rattle.shelf.specs.Shelf.{spansRefusal, spansWritten, spansAnswer}
 use Rattle.shelf.specs.declared.Answer.{Answer}
 

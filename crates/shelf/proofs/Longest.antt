@@ -8,9 +8,9 @@ use native.Mathlib.Omega.{arith}
 use lib.Dec.{eqb}
 use borrow.Author.Tests.{eqb-true}
 use Rattle.stripe.specs.declared.Shape.{Shape}
-use Rattle.fold.specs.declared.Kind.{Kind}
-use Rattle.fold.specs.Plan.{foldRefusal, kindOf, columnsEach, columnsRead}
-use Rattle.fold.proofs.Foldable.{IsA, IsB, IsC, Foldable, foldable}
+use Rattle.plan.specs.declared.Kind.{Kind}
+use Rattle.plan.specs.Plan.{foldRefusal, kindOf, columnsEach, columnsRead}
+use Rattle.plan.proofs.Foldable.{IsA, IsB, IsC, foldable}
 
 few : (n a k : ℕ) → n * k ≤ 255 → a ≤ k → n * a ≤ 425
 few n a k h g = omega (arith, mul-le-mul (le-refl n) g)

@@ -11,9 +11,9 @@ use lib.Seq.{set-at, drop-cons, take-suc, take-length, length-take-le}
 use lib.Dec.{ltb, eqb}
 use borrow.Author.Tests.{ltb-false}
 use Rattle.stripe.specs.declared.Shape.{Shape}
-use Rattle.fold.specs.declared.Span.{Span}
-use Rattle.fold.specs.Plan.{foldRefusal, columnsRead, plan, spanAt}
-use Rattle.fold.proofs.Counted.{columns-counted}
+use Rattle.plan.specs.declared.Span.{Span}
+use Rattle.plan.specs.Plan.{foldRefusal, columnsRead, plan, spanAt}
+use Rattle.plan.proofs.Counted.{columns-counted}
 use Rattle.shelf.specs.Shelf.{spansRefusal, spansWritten, spansFilled}
 
 -- the list xs with the first i of the records ps stored

@@ -16,7 +16,7 @@ use denote.Triple.Clauses.{AtExit}
 use denote.Ref.{now}
 use Rattle.mending.proofs.Outcome.{mended-one}
 use Rattle.stripe.specs.declared.Shape.{Shape}
-use Rattle.fold.specs.declared.Span.{Span}
+use Rattle.plan.specs.declared.Span.{Span}
 use Rattle.shelf.specs.Shelf.{shapeOf, spansRefusal, spansFilled}
 use Rattle.shelf.proofs.shelf_encode as shelf-encode
 use Rattle.shelf.proofs.shelf_encode.Reads as shelf-encode-reads

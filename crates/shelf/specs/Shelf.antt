@@ -5,8 +5,8 @@ use mathlib.Core.List.{List, _++_}
 use lib.Dec.{eqb, ltb}
 use lib.ListN.{length, drop}
 use Rattle.stripe.specs.declared.Shape.{Shape}
-use Rattle.fold.specs.declared.Span.{Span}
-use Rattle.fold.specs.Plan.{foldRefusal, columnsRead, plan}
+use Rattle.plan.specs.declared.Span.{Span}
+use Rattle.plan.specs.Plan.{foldRefusal, columnsRead, plan}
 use Rattle.shelf.specs.declared.Answer.{Answer}
 
 -- the shape of the four numbers of a call

@@ -1,18 +1,18 @@
 // The calls of the shelf daemon, for C: numbers and byte slices come in, 0 or the number of a refusal goes back. `c/shelf.h`
 // documents them. Each is thin over a proved function of a crate below, and refuses bad numbers and lengths itself.
 use coding::encode::encode;
-use fold::Span;
-use fold::bytes_read;
-use fold::columns_read;
 use fold::fold;
-use fold::fold_refusal;
-use fold::span_at;
 use mending::mend;
+use plan::Span;
+use plan::bytes_read;
+use plan::columns_read;
+use plan::fold_refusal;
+use plan::span_at;
 use stripe::Shape;
 ghost use mathlib.Core.Path.{_≡_};
 ghost use lib.ListN.{length};
 ghost use Rattle.coding.specs.Encode.{encodeRefusal, encoded};
-ghost use Rattle.fold.specs.Plan.{foldRefusal, columnsRead, bytesRead, spanAt};
+ghost use Rattle.plan.specs.Plan.{foldRefusal, columnsRead, bytesRead, spanAt};
 ghost use Rattle.fold.specs.Shares.{foldVerdict, foldFilled};
 ghost use Rattle.mending.specs.Mend.{Mended};
 ghost use Rattle.shelf.specs.Shelf.{shapeOf, spansRefusal, spansAnswer, spansFilled};

@@ -1,31 +1,32 @@
--- `fill` meets its contract: kinds A and B go run by run, and kind C is the encoding of the wide stripe.
-use mathlib.Core.Path.{sym, ap, _∙_}
+-- `fill` meets its contract: kind C is the encoding of the wide stripe, and kinds A and B go stripe by stripe.
+use mathlib.Core.Path.{_≡_, sym, ap, _∙_}
+use mathlib.Core.Logic.{_⊎_, inl, inr}
+use Prim.Native.Nat.{ℕ}
+use native.Mathlib.Omega.{arith}
+use denote.Enum.Declared.{tagOf, declared}
 use denote.Ref.{now}
 use Rattle.stripe.specs.declared.Shape.{Shape}
 use Rattle.coding.specs.Encode.{encoded}
-use Rattle.fold.proofs.Refusals.{a-shape}
+use Rattle.plan.specs.declared.Kind.{Kind}
+use Rattle.plan.specs.declared.Kind.the-variants.{C}
+use Rattle.plan.proofs.Kind as K
+use Rattle.plan.proofs.Refusals.{a-shape}
+use Rattle.fold.proofs.Filling.{reads-parity}
 use Rattle.fold.proofs.Encoded.{encoded-fold}
 use borrow.Author.Needs.{needs}
 use Rattle.fold.proofs.fill.Statement.{statement}
 use Rattle.fold.proofs.fill.Tie as tie
+
+-- a kind with another number than that of C
+other : {κ : Kind} → (tagOf (declared K.enum) κ ≡ 0) ⊎ (tagOf (declared K.enum) κ ≡ 1) → κ ≡ C → ⊥
+other (inl h) e = let z : _≡_ {A = ℕ} 2 0 = sym (ap (tagOf (declared K.enum)) e) ∙ h in omega arith
+other (inr h) e = let z : _≡_ {A = ℕ} 2 1 = sym (ap (tagOf (declared K.enum)) e) ∙ h in omega arith
 
 kind-of-requires : tie.Need-kind-of-requires
 kind-of-requires c κs = search needs
 
 enum-told : tie.Need-enum-told
 enum-told c = search needs
-
-fill-parity-requires : tie.Need-fill-parity-requires
-fill-parity-requires c κs = search needs
-
-enum-told-2 : tie.Need-enum-told-2
-enum-told-2 c = search needs
-
-fill-parity-requires-2 : tie.Need-fill-parity-requires-2
-fill-parity-requires-2 c κs = search needs
-
-enum-told-3 : tie.Need-enum-told-3
-enum-told-3 c = search needs
 
 wide-shape-requires : tie.Need-wide-shape-requires
 wide-shape-requires c κs = search needs
@@ -37,7 +38,16 @@ same-length : tie.Need-same-length
 same-length c = search needs
 
 returns : tie.Need-returns
-returns c = search needs
+returns c =
+    let z = c .before .before .before .before .before .before .before .before .before .before in
+    c .before .before .encode .ensures .1
+    ∙ ap (λ (t : Shape). encoded t (now (z .args .read)) (now (z .args .parity))) (c .before .before .before .before .wide-shape .ensures ∙ a-shape _ _ _ (z .pre .0))
+    ∙ encoded-fold _ _ _ (z .pre .0) _ (sym (c .before .before .before .before .before .before .before .kind-of .ensures) ∙ c .before .before .before .before .before .enum-told .given .1) (z .pre .1 .0) _ (z .pre .1 .1)
+
+fill-parity-requires : tie.Need-fill-parity-requires
+fill-parity-requires c κs =
+    let z = c .before .before .before .before .before in
+    (reads-parity _ _ _ (z .pre .0) (λ e. other (c .before .match .keys2) (c .before .before .kind-of .ensures ∙ e)), z .pre)
 
 same-length-2 : tie.Need-same-length-2
 same-length-2 c = search needs
@@ -45,31 +55,16 @@ same-length-2 c = search needs
 returns-2 : tie.Need-returns-2
 returns-2 c = search needs
 
-same-length-3 : tie.Need-same-length-3
-same-length-3 c = search needs
-
-returns-3 : tie.Need-returns-3
-returns-3 c =
-    let z = c .before .before .before .before .before .before .before .before .before .before in
-    c .before .before .encode .ensures .1
-    ∙ ap (λ (t : Shape). encoded t (now (z .args .read)) (now (z .args .parity))) (c .before .before .before .before .wide-shape .ensures ∙ a-shape _ _ _ (z .pre .0))
-    ∙ encoded-fold _ _ _ (z .pre .0) _ (sym (c .before .before .before .before .before .before .before .kind-of .ensures) ∙ c .before .before .before .before .before .enum-told3 .given .1) (z .pre .1 .0) _ (z .pre .1 .1)
-
 pub fill-spec : {M : Type 1} → statement M
 fill-spec =
     tie.close
     (tie.spec
     kind-of-requires
     enum-told
-    fill-parity-requires
-    enum-told-2
-    fill-parity-requires-2
-    enum-told-3
     wide-shape-requires
     encode-requires
     same-length
     returns
+    fill-parity-requires
     same-length-2
-    returns-2
-    same-length-3
-    returns-3)
+    returns-2)

@@ -1,9 +1,9 @@
 -- `fold_verdict` meets its contract: each test decides one part of the definition.
 use mathlib.Core.Path.{sym, _∙_}
 use native.Mathlib.Omega.{arith}
-use Rattle.fold.proofs.Bounds.{fits, new-product}
-use Rattle.fold.proofs.Foldable.{foldable}
-use Rattle.fold.proofs.Refusals.{shape-passed}
+use Rattle.plan.proofs.Bounds.{fits, new-product}
+use Rattle.plan.proofs.Foldable.{foldable}
+use Rattle.plan.proofs.Refusals.{shape-passed}
 use Rattle.fold.proofs.Verdict.{by-refusal, by-read, by-filled, by-nothing}
 use borrow.Author.Needs.{needs}
 use Rattle.fold.proofs.fold_verdict.Statement.{statement}

@@ -2,7 +2,7 @@
 use mathlib.Core.Path.{ap, _∙_}
 use borrow.Author.Needs.{needs}
 use Rattle.stripe.specs.declared.Shape.{Shape}
-use Rattle.fold.specs.Plan.{spanAt}
+use Rattle.plan.specs.Plan.{spanAt}
 use Rattle.shelf.proofs.plan_span.Statement.{statement}
 use Rattle.shelf.proofs.plan_span.Tie as tie
 

@@ -2,7 +2,7 @@
 use mathlib.Core.Path.{ap, _∙_}
 use borrow.Author.Needs.{needs}
 use Rattle.stripe.specs.declared.Shape.{Shape}
-use Rattle.fold.specs.Plan.{columnsRead}
+use Rattle.plan.specs.Plan.{columnsRead}
 use Rattle.shelf.proofs.shelf_plan_columns_read.Statement.{statement}
 use Rattle.shelf.proofs.shelf_plan_columns_read.Tie as tie
 

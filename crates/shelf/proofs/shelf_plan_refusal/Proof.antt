@@ -2,7 +2,7 @@
 use mathlib.Core.Path.{ap, _∙_}
 use borrow.Author.Needs.{needs}
 use Rattle.stripe.specs.declared.Shape.{Shape}
-use Rattle.fold.specs.Plan.{foldRefusal}
+use Rattle.plan.specs.Plan.{foldRefusal}
 use Rattle.shelf.proofs.shelf_plan_refusal.Statement.{statement}
 use Rattle.shelf.proofs.shelf_plan_refusal.Tie as tie
 

@@ -50,10 +50,10 @@ use denote.Triple.Walked.{says, Stays, stay-none, stay-slice, walkOf, goes-none,
 use denote.Exit.{yes}
 use borrow.Author.Tests.{lt-ltb, le-ltb}
 use Rattle.stripe.specs.declared.Shape.{Shape}
-use Rattle.fold.specs.declared.Span.{Span}
-use Rattle.fold.specs.Plan.{plan, spanAt}
-use Rattle.fold.proofs.Span as T
-use Rattle.fold.proofs.Span.Laws as T′
+use Rattle.plan.specs.declared.Span.{Span}
+use Rattle.plan.specs.Plan.{plan, spanAt}
+use Rattle.plan.proofs.Span as T
+use Rattle.plan.proofs.Span.Laws as T′
 use Rattle.shelf.specs.Shelf.{shapeOf, spansAnswer}
 use Rattle.shelf.specs.declared.Answer.{Answer}
 use Rattle.shelf.proofs.Stored.{front, length-front, front-more, front-done, written-room, written-plan, lt-or-ge}

@@ -2,7 +2,7 @@
 use mathlib.Core.Path.{sym, ap, _∙_}
 use borrow.Author.Needs.{needs}
 use Rattle.stripe.specs.declared.Shape.{Shape}
-use Rattle.fold.specs.Plan.{foldRefusal, columnsRead}
+use Rattle.plan.specs.Plan.{foldRefusal, columnsRead}
 use Rattle.shelf.proofs.Answered.{by-refusal, by-room, by-nothing}
 use Rattle.shelf.proofs.spans_answer.Statement.{statement}
 use Rattle.shelf.proofs.spans_answer.Tie as tie

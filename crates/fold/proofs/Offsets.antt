@@ -1,0 +1,28 @@
+-- The offsets of the runs and parts of a prepared stripe are small, so that they fit a machine's word.
+use mathlib.Core.Path.{_≡_}
+use mathlib.Core.Logic.{_⊎_, inl, inr}
+use Prim.Native.Nat.{ℕ, _-_, _*_, _/_, _<_, _≤_}
+use native.Mathlib.Nat.{mul-le-mul}
+use native.Mathlib.Omega.{arith}
+use Rattle.stripe.specs.declared.Shape.{Shape}
+use Rattle.stripe.specs.Shape.{shapeRefusal}
+use Rattle.stripe.proofs.Allowed.{Prepared, allowed}
+use Rattle.plan.proofs.Bounds.{data-small, run-small, part-small}
+
+module _ (s : Shape) (passed : shapeRefusal s ≡ 0) where
+  -- a shape with a mark is prepared
+  pub mark-prepared : 0 < s .t → Prepared s
+  mark-prepared h = go (allowed s passed .mark)
+    where
+      go : (s .t ≡ 0) ⊎ Prepared s → Prepared s
+      go (inl e) = absurd (omega arith)
+      go (inr p) = p
+
+  pub few-runs : (n : ℕ) → n ≤ 3 → n * (s .l / s .t) ≤ 12288
+  few-runs n h = mul-le-mul h (run-small s passed)
+
+  pub few-parts : (n : ℕ) → n ≤ 3 → n * ((s .t - s .r) * (s .l / s .t)) ≤ 36864
+  few-parts n h = mul-le-mul h (part-small s passed)
+
+  pub data-parts : s .k * ((s .t - s .r) * (s .l / s .t)) ≤ 3133440
+  data-parts = mul-le-mul (data-small s passed) (part-small s passed)

@@ -1,0 +1,101 @@
+-- The numbers of an allowed fold are small, so that its products fit a machine's word.
+use mathlib.Core.Path.{_≡_, refl, sym, _∙_}
+use mathlib.Core.Bool.{Bool, true, false, cond, _&&_}
+use mathlib.Core.Logic.{_⊎_, inl, inr}
+use Prim.Native.Nat.{ℕ, _+_, _-_, _*_, _/_, _<_, _≤_, _^_}
+use native.Mathlib.Nat.{mul-le-mul, div-le-self}
+use native.Mathlib.Omega.{arith}
+use lib.Dec.{leb}
+use mir.Syntax.{w64}
+use mir.Val.{Fits}
+use Rattle.stripe.specs.declared.Shape.{Shape}
+use Rattle.stripe.specs.Shape.{shapeRefusal}
+use Rattle.stripe.proofs.Allowed.{Allowed, Prepared, allowed}
+use Rattle.plan.specs.declared.Kind.{Kind}
+use Rattle.plan.specs.declared.Kind.the-variants.{A, B, C}
+use Rattle.plan.specs.Plan.{foldRefusal, kindOf, columnsEach, bytesEach}
+use Rattle.plan.proofs.Foldable.{Foldable, foldable, plain-kind}
+use Rattle.plan.proofs.Costs.{bytes-read, bytes-most}
+
+pub fits : (n : ℕ) → n < 2 ^ 64 → Fits w64 n
+fits n h = record { fits = h }
+
+not-b : (b : Bool) → cond b A C ≡ B → ⊥
+not-b true e = let z : _≡_ {A = ℕ} 0 1 = cc in omega arith
+not-b false e = let z : _≡_ {A = ℕ} 0 1 = cc in omega arith
+
+-- only a prepared shape is of kind B
+pub b-prepared : (s : Shape) (f : ℕ) → shapeRefusal s ≡ 0 → kindOf s f ≡ B → Prepared s
+b-prepared s f passed e = go (allowed s passed .mark)
+  where
+    go : (s .t ≡ 0) ⊎ Prepared s → Prepared s
+    go (inl z) = absurd (not-b (leb f (s .r) && leb f (s .k)) (sym (plain-kind s f _ z refl) ∙ e))
+    go (inr p) = p
+
+module _ (s : Shape) (passed : shapeRefusal s ≡ 0) where
+  mark-small : s .t ≤ 3
+  mark-small = go (allowed s passed .mark)
+    where
+      go : (s .t ≡ 0) ⊎ Prepared s → s .t ≤ 3
+      go (inl e) = omega arith
+      go (inr p) = p .mark-most
+
+  pub data-small : s .k ≤ 255
+  data-small = allowed s passed .data-most
+
+  pub parity-small : s .r ≤ 3
+  parity-small = allowed s passed .parity-most
+
+  pub length-small : s .l ≤ 4096
+  length-small = allowed s passed .length-most
+
+  pub run-small : s .l / s .t ≤ 4096
+  run-small = omega (arith, div-le-self (s .l) (s .t), length-small)
+
+  rest-small : s .t - s .r ≤ 3
+  rest-small = omega (arith, mark-small)
+
+  pub new-product : (f : ℕ) → f ≤ 3 → f * s .l ≤ 12288
+  new-product f h = mul-le-mul h length-small
+
+  pub data-product : s .k * s .l ≤ 1044480
+  data-product = mul-le-mul data-small length-small
+
+  pub parity-runs : s .r * s .t ≤ 9
+  parity-runs = mul-le-mul parity-small mark-small
+
+  pub data-runs : s .k * (s .t - s .r) ≤ 765
+  data-runs = mul-le-mul data-small rest-small
+
+  pub all-runs : (s .r * s .t + s .k * (s .t - s .r)) * (s .l / s .t) ≤ 3170304
+  all-runs = mul-le-mul {n₂ = 774} (omega (arith, parity-runs, data-runs)) run-small
+
+  pub first-small : s .r * (s .l / s .t) ≤ 12288
+  first-small = mul-le-mul parity-small run-small
+
+  pub part-small : (s .t - s .r) * (s .l / s .t) ≤ 12288
+  part-small = mul-le-mul rest-small run-small
+
+module _ (s : Shape) (n f : ℕ) (passed : foldRefusal s n f ≡ 0) where
+  pub each-small : columnsEach (kindOf s f) s f ≤ 258
+  unfolding columnsEach
+  each-small = go (kindOf s f)
+    where
+      able : Foldable s n f
+      able = foldable s n f passed
+
+      a : Allowed s
+      a = able .shape
+
+      go : (κ : Kind) → columnsEach κ s f ≤ 258
+      go A = omega (arith, able .new-most)
+      go B = omega (arith, a .data-most, a .parity-most)
+      go C = omega (arith, a .data-most)
+
+  pub columns-small : n * columnsEach (kindOf s f) s f ≤ 65790
+  columns-small = mul-le-mul (foldable s n f passed .stripes-most) each-small
+
+  pub bytes-small : n * bytesEach (kindOf s f) s f ≤ 1044480
+  bytes-small =
+      let h : n * s .k * s .l ≤ 1044480 = mul-le-mul (foldable s n f passed .wide-most) (foldable s n f passed .shape .length-most) in
+      omega (arith, bytes-most s n f, bytes-read s n f passed)

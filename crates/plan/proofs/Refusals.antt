@@ -1,0 +1,59 @@
+-- The verdicts on a fold in their order: the first test that fails gives the number.
+use mathlib.Core.Path.{_≡_, sym, ap, ap₂, _∙_}
+use mathlib.Core.Bool.{Bool, true, false, cond}
+use Prim.Native.Nat.{ℕ, _-_, _*_, _<_, _≤_, _^_}
+use borrow.Author.Tests.{eq-eqb, ne-eqb, lt-ltb, le-ltb}
+use Rattle.stripe.specs.declared.Shape.{Shape}
+use Rattle.stripe.specs.Shape.{shapeRefusal}
+use Rattle.plan.specs.Plan.{foldRefusal, stripesAllowed, newAllowed, capped, wideShape, wideAnswer, columnsEach, bytesEach, columnsRead, bytesRead, kindOf}
+use Rattle.plan.proofs.Foldable.{all-passed}
+
+module _ (s : Shape) (n f : ℕ) where
+  pub by-shape : (shapeRefusal s ≡ 0 → ⊥) → shapeRefusal s ≡ foldRefusal s n f
+  unfolding foldRefusal
+  by-shape h =
+      sym (ap (λ (b : Bool). cond b (cond (stripesAllowed (s .k) n) (cond (newAllowed (s .t) f) 0 4) 3) (shapeRefusal s)) (ne-eqb (shapeRefusal s) 0 h))
+
+  by-rest : shapeRefusal s ≡ 0 → foldRefusal s n f ≡ cond (stripesAllowed (s .k) n) (cond (newAllowed (s .t) f) 0 4) 3
+  unfolding foldRefusal
+  by-rest e = ap (λ (b : Bool). cond b (cond (stripesAllowed (s .k) n) (cond (newAllowed (s .t) f) 0 4) 3) (shapeRefusal s)) (eq-eqb (shapeRefusal s) 0 e)
+
+  pub by-stripes : shapeRefusal s ≡ 0 → stripesAllowed (s .k) n ≡ false → 3 ≡ foldRefusal s n f
+  by-stripes e h = sym (by-rest e ∙ ap (λ (b : Bool). cond b (cond (newAllowed (s .t) f) 0 4) 3) h)
+
+  pub by-new : shapeRefusal s ≡ 0 → stripesAllowed (s .k) n ≡ true → newAllowed (s .t) f ≡ false → 4 ≡ foldRefusal s n f
+  by-new e h g = sym (by-rest e ∙ ap₂ (λ (a b : Bool). cond a (cond b 0 4) 3) h g)
+
+  pub by-none : shapeRefusal s ≡ 0 → stripesAllowed (s .k) n ≡ true → newAllowed (s .t) f ≡ true → 0 ≡ foldRefusal s n f
+  by-none e h g = sym (by-rest e ∙ ap₂ (λ (a b : Bool). cond a (cond b 0 4) 3) h g)
+
+  -- what is not refused has an allowed shape
+  pub shape-passed : foldRefusal s n f ≡ 0 → shapeRefusal s ≡ 0
+  unfolding foldRefusal
+  shape-passed e = all-passed (shapeRefusal s) (stripesAllowed (s .k) n) (newAllowed (s .t) f) e .0
+
+  -- what is refused reads nothing
+  module _ (refused : foldRefusal s n f ≡ 0 → ⊥) where
+    pub no-columns : 0 ≡ columnsRead s n f
+    unfolding columnsRead
+    no-columns = sym (ap (λ (b : Bool). cond b (n * columnsEach (kindOf s f) s f) 0) (ne-eqb (foldRefusal s n f) 0 refused))
+
+    pub no-bytes : 0 ≡ bytesRead s n f
+    unfolding bytesRead
+    no-bytes = sym (ap (λ (b : Bool). cond b (n * bytesEach (kindOf s f) s f) 0) (ne-eqb (foldRefusal s n f) 0 refused))
+
+    pub no-shape : wideAnswer s n f ≡ record { k = 0; r = 0; t = 0; l = 0 }
+    unfolding wideAnswer
+    no-shape = ap (λ (b : Bool). cond b (wideShape s n f) (record { k = 0; r = 0; t = 0; l = 0 })) (ne-eqb (foldRefusal s n f) 0 refused)
+
+  pub a-shape : foldRefusal s n f ≡ 0 → wideAnswer s n f ≡ wideShape s n f
+  unfolding wideAnswer
+  a-shape e = ap (λ (b : Bool). cond b (wideShape s n f) (record { k = 0; r = 0; t = 0; l = 0 })) (eq-eqb (foldRefusal s n f) 0 e)
+
+-- ---- sums of counts
+
+pub capped-is : (n : ℕ) → n < 2 ^ 64 → n ≡ capped n
+capped-is n h = sym (ap (λ (b : Bool). cond b n (2 ^ 64 - 1)) (lt-ltb n (2 ^ 64) h))
+
+pub capped-most : (n : ℕ) → 2 ^ 64 ≤ n → 2 ^ 64 - 1 ≡ capped n
+capped-most n h = sym (ap (λ (b : Bool). cond b n (2 ^ 64 - 1)) (le-ltb n (2 ^ 64) h))

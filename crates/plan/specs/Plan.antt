@@ -1,0 +1,106 @@
+-- The plan of a fold (document 01, 'Folding'): which folds are refused, what a fold reads of each stripe, and how much that is.
+-- N stripes of shape s are folded into one wide stripe with f parity columns.
+use Prim.Native.Nat.{ℕ, zero, suc, _+_, _-_, _*_, _/_, _^_}
+use mathlib.Core.Bool.{Bool, cond, _&&_, _||_}
+use mathlib.Core.List.{List, [], _∷_, _++_}
+use lib.Dec.{leb, ltb, eqb}
+use lib.ListN.{getD}
+use Rattle.stripe.specs.declared.Shape.{Shape}
+use Rattle.stripe.specs.Shape.{shapeRefusal}
+use Rattle.plan.specs.declared.Kind.{Kind}
+use Rattle.plan.specs.declared.Kind.the-variants.{A, B, C}
+use Rattle.plan.specs.declared.Span.{Span}
+
+-- N is 2 to 255, with N*k <= 255
+abbrev pub stripesAllowed : ℕ → ℕ → Bool
+stripesAllowed k n = leb 2 n && leb n 255 && leb (n * k) 255
+
+-- f is 1 to 3; if t is not 0, f = t
+abbrev pub newAllowed : ℕ → ℕ → Bool
+newAllowed t f = leb 1 f && leb f 3 && (eqb t 0 || eqb f t)
+
+-- the refusal of a fold: 1 and 2 for the shape, 3 for N, 4 for f, 0 for none
+unfoldable pub foldRefusal : Shape → ℕ → ℕ → ℕ
+foldRefusal s n f =
+    cond (eqb (shapeRefusal s) 0) (cond (stripesAllowed (s .k) n) (cond (newAllowed (s .t) f) 0 4) 3) (shapeRefusal s)
+
+-- A if t = 0, f <= r and f <= k; B if t = f, which for t other than 0 is the only f allowed; C if t = 0 otherwise
+unfoldable pub kindOf : Shape → ℕ → Kind
+kindOf s f = cond (eqb (s .t) 0) (cond (leb f (s .r) && leb f (s .k)) A C) B
+
+-- the same part of m columns of stripe n, in order of their positions, the first of which is c
+unfoldable pub columnSpans : ℕ → ℕ → ℕ → ℕ → ℕ → List Span
+columnSpans n first many c zero = []
+columnSpans n first many c (suc m) =
+    record { stripe = n; position = c; first = first; length = many } ∷ columnSpans n first many (suc c) m
+
+-- what the plan reads of stripe n. A: parity columns 0 to f-1, whole. B: from each data column the runs r to t-1; every parity
+-- column whole. C: every data column, whole
+unfoldable pub kindSpans : Kind → Shape → ℕ → ℕ → List Span
+kindSpans A s f n = columnSpans n 0 (s .l) (s .k) f
+kindSpans B s f n =
+    columnSpans n (s .r * (s .l / s .t)) ((s .t - s .r) * (s .l / s .t)) 0 (s .k) ++ columnSpans n 0 (s .l) (s .k) (s .r)
+kindSpans C s f n = columnSpans n 0 (s .l) 0 (s .k)
+
+-- what the plan reads of m stripes, in order, the first of which is n
+unfoldable pub spansFrom : Shape → ℕ → ℕ → ℕ → List Span
+spansFrom s f n zero = []
+spansFrom s f n (suc m) = kindSpans (kindOf s f) s f n ++ spansFrom s f (suc n) m
+
+-- the plan: stripes in order, then positions in order, one span per column read. A refused fold has none
+unfoldable pub plan : Shape → ℕ → ℕ → List Span
+plan s n f = cond (eqb (foldRefusal s n f) 0) (spansFrom s f 0 n) []
+
+-- the column that is number i of those read of stripe n, as a span
+unfoldable pub columnSpan : Kind → Shape → ℕ → ℕ → Span
+columnSpan A s n i = record { stripe = n; position = s .k + i; first = 0; length = s .l }
+columnSpan B s n i =
+    cond (ltb i (s .k))
+    (record { stripe = n; position = i; first = s .r * (s .l / s .t); length = (s .t - s .r) * (s .l / s .t) })
+    (record { stripe = n; position = i; first = 0; length = s .l })
+columnSpan C s n i = record { stripe = n; position = i; first = 0; length = s .l }
+
+-- span number i of the plan, and a span of no bytes past its end
+unfoldable pub spanAt : Shape → ℕ → ℕ → ℕ → Span
+spanAt s n f i = getD (plan s n f) i (record { stripe = 0; position = 0; first = 0; length = 0 })
+
+-- the lengths of spans, summed
+unfoldable pub summed : List Span → ℕ
+summed [] = 0
+summed (x ∷ xs) = x .length + summed xs
+
+-- how many columns are read of each stripe, by the table
+unfoldable pub columnsEach : Kind → Shape → ℕ → ℕ
+columnsEach A s f = f
+columnsEach B s f = s .k + s .r
+columnsEach C s f = s .k
+
+-- how many bytes are read of each stripe, by the table
+unfoldable pub bytesEach : Kind → Shape → ℕ → ℕ
+bytesEach A s f = f * s .l
+bytesEach B s f = (s .r * s .t + s .k * (s .t - s .r)) * (s .l / s .t)
+bytesEach C s f = s .k * s .l
+
+-- how many columns the plan reads in all; none where the fold is refused
+unfoldable pub columnsRead : Shape → ℕ → ℕ → ℕ
+columnsRead s n f = cond (eqb (foldRefusal s n f) 0) (n * columnsEach (kindOf s f) s f) 0
+
+-- how many bytes the plan reads in all: N*f*L, N*(r*t + k*(t-r))*(L/t) or N*k*L; none where the fold is refused
+unfoldable pub bytesRead : Shape → ℕ → ℕ → ℕ
+bytesRead s n f = cond (eqb (foldRefusal s n f) 0) (n * bytesEach (kindOf s f) s f) 0
+
+-- the conversion bandwidth is the number of bytes read
+abbrev pub conversionBandwidth : Shape → ℕ → ℕ → ℕ
+conversionBandwidth s n f = bytesRead s n f
+
+-- a sum of counts, or 2^64-1 where it does not fit
+abbrev pub capped : ℕ → ℕ
+capped n = cond (ltb n (2 ^ 64)) n (2 ^ 64 - 1)
+
+-- the shape of the wide stripe: plain, all data columns, f parity columns, L bytes to a column
+abbrev pub wideShape : Shape → ℕ → ℕ → Shape
+wideShape s n f = record { k = n * s .k; r = f; t = 0; l = s .l }
+
+-- the same, and where the fold is refused a shape of no columns, which is never allowed
+unfoldable pub wideAnswer : Shape → ℕ → ℕ → Shape
+wideAnswer s n f = cond (eqb (foldRefusal s n f) 0) (wideShape s n f) (record { k = 0; r = 0; t = 0; l = 0 })

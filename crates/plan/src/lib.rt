@@ -1,0 +1,198 @@
+// The plan of a fold: N stripes of one shape become one wide stripe with f parity columns. The plan says which bytes a fold reads
+// and how many. Every function is total: what is refused reads nothing.
+ghost use mathlib.Core.Path.{_≡_};
+ghost use Prim.Native.Nat.{_*_, _<_, _≤_};
+ghost use Rattle.stripe.specs.Shape.{shapeRefusal};
+ghost use Rattle.plan.specs.Plan.{foldRefusal, stripesAllowed, newAllowed, kindOf, columnsEach, bytesEach, columnsRead, bytesRead, columnSpan, spanAt, wideAnswer};
+use stripe::Shape;
+
+pub mod counts;
+
+use counts::Bytes;
+use counts::Columns;
+
+// The kinds of folds. A reads parity columns, B runs of the data and the parity, C the data.
+pub enum Kind {
+    A,
+    B,
+    C,
+}
+
+// The bytes that a plan reads of one column: its stripe and position, the offset of the first byte in the column, and how many.
+#[repr(C)]
+pub struct Span {
+    pub stripe: u32,
+    pub position: u32,
+    pub first: u32,
+    pub length: u32,
+}
+
+// 1 or 2 where the shape is not allowed, else 3 where the number of stripes is not, else 4 where f is not, else 0.
+pub fn fold_refusal(s: Shape, stripes: usize, f: usize) -> u32
+    ensures { λ v. ⌜ v ≡ foldRefusal s stripes f ⌝ }
+{
+    let no = s.refusal();
+    if no != 0 {
+        return no;
+    }
+    if !stripes_allowed(s.k, stripes) {
+        return 3;
+    }
+    if !new_allowed(s.t, f) {
+        return 4;
+    }
+    0
+}
+
+// Whether n is 2 to 255 with n * k at most 255.
+fn stripes_allowed(k: usize, n: usize) -> bool
+    requires { ⌜ k ≤ 255 ⌝ }
+    ensures { λ v. ⌜ v ≡ stripesAllowed k n ⌝ }
+{
+    if n < 2 {
+        return false;
+    }
+    if 255 < n {
+        return false;
+    }
+    n * k <= 255
+}
+
+// Whether f is 1 to 3 and, if t is not 0, f is t.
+fn new_allowed(t: usize, f: usize) -> bool
+    ensures { λ v. ⌜ v ≡ newAllowed t f ⌝ }
+{
+    if f < 1 {
+        return false;
+    }
+    if 3 < f {
+        return false;
+    }
+    if t == 0 {
+        return true;
+    }
+    f == t
+}
+
+// The kind of a fold of stripes of this shape.
+pub fn kind_of(s: Shape, f: usize) -> Kind
+    ensures { λ v. ⌜ v ≡ kindOf s f ⌝ }
+{
+    if s.t != 0 {
+        return Kind::B;
+    }
+    if s.r < f {
+        return Kind::C;
+    }
+    if s.k < f {
+        return Kind::C;
+    }
+    Kind::A
+}
+
+// How many columns are read of each stripe.
+fn columns_each(s: Shape, f: usize) -> usize
+    requires { ⌜ shapeRefusal s ≡ 0 ⌝ }
+    ensures { λ v. ⌜ v ≡ columnsEach (kindOf s f) s f ⌝ }
+{
+    let kind = kind_of(s, f);
+    match kind {
+        Kind::A => f,
+        Kind::B => s.k + s.r,
+        Kind::C => s.k,
+    }
+}
+
+// How many bytes are read of each stripe.
+fn bytes_each(s: Shape, f: usize) -> usize
+    requires { ⌜ (shapeRefusal s ≡ 0) × (f ≤ 3) ⌝ }
+    ensures { λ v. ⌜ v ≡ bytesEach (kindOf s f) s f ⌝ }
+{
+    let k = s.k;
+    let r = s.r;
+    let t = s.t;
+    let l = s.l;
+    let kind = kind_of(s, f);
+    match kind {
+        Kind::A => f * l,
+        Kind::B => (r * t + k * (t - r)) * (l / t),
+        Kind::C => k * l,
+    }
+}
+
+// How many columns the plan reads; none where the fold is refused.
+pub fn columns_read(s: Shape, stripes: usize, f: usize) -> Columns
+    ensures { λ v. ⌜ v .0 ≡ columnsRead s stripes f ⌝ }
+{
+    if fold_refusal(s, stripes, f) != 0 {
+        return Columns::of(0);
+    }
+    Columns::of((stripes * columns_each(s, f)) as u64)
+}
+
+// How many bytes the plan reads, which is the length of the fold's input; none where the fold is refused.
+pub fn bytes_read(s: Shape, stripes: usize, f: usize) -> Bytes
+    ensures { λ v. ⌜ v .0 ≡ bytesRead s stripes f ⌝ }
+{
+    if fold_refusal(s, stripes, f) != 0 {
+        return Bytes::of(0);
+    }
+    Bytes::of((stripes * bytes_each(s, f)) as u64)
+}
+
+// The span of the column that is number i of those read of stripe n.
+fn column_span(s: Shape, f: usize, n: usize, i: usize) -> Span
+    requires { ⌜ (shapeRefusal s ≡ 0) × ((n ≤ 255) × (i ≤ 258)) ⌝ }
+    ensures { λ v. ⌜ v ≡ columnSpan (kindOf s f) s n i ⌝ }
+{
+    let k = s.k;
+    let r = s.r;
+    let t = s.t;
+    let l = s.l;
+    let kind = kind_of(s, f);
+    match kind {
+        Kind::A => span_of(n, k + i, 0, l),
+        Kind::B => {
+            if i < k {
+                span_of(n, i, r * (l / t), (t - r) * (l / t))
+            } else {
+                span_of(n, i, 0, l)
+            }
+        }
+        Kind::C => span_of(n, i, 0, l),
+    }
+}
+
+// The span of these numbers.
+fn span_of(stripe: usize, position: usize, first: usize, length: usize) -> Span
+    requires { ⌜ (stripe < 65536) × ((position < 65536) × ((first < 65536) × (length < 65536))) ⌝ }
+    ensures { λ v. ⌜ v ≡ record { stripe = stripe; position = position; first = first; length = length } ⌝ }
+{
+    Span {
+        stripe: stripe as u32,
+        position: position as u32,
+        first: first as u32,
+        length: length as u32,
+    }
+}
+
+// Span number i of the plan, and a span of no bytes where the plan has none.
+pub fn span_at(s: Shape, stripes: usize, f: usize, i: usize) -> Span
+    ensures { λ v. ⌜ v ≡ spanAt s stripes f i ⌝ }
+{
+    if columns_read(s, stripes, f).number() <= i as u64 {
+        return span_of(0, 0, 0, 0);
+    }
+    let each = columns_each(s, f);
+    column_span(s, f, i / each, i % each)
+}
+
+// The shape of the wide stripe; where the fold is refused a shape of no columns, which is never allowed.
+pub fn wide_shape(s: Shape, stripes: usize, f: usize) -> Shape
+    ensures { λ v. ⌜ v ≡ wideAnswer s stripes f ⌝ }
+{
+    if fold_refusal(s, stripes, f) != 0 {
+        return Shape::new(0, 0, 0, 0);
+    }
+    Shape::new(stripes * s.k, f, 0, s.l)
+}

@@ -1,7 +1,3 @@
-pub mod Over
-pub mod Pieces
-pub mod Lines
-pub mod Printed
 pub mod Pairs
 pub mod Reading
 pub mod Outcome

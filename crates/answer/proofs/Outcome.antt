@@ -12,10 +12,10 @@ use Rattle.record.specs.Reading.{readRefusal, shapeOf, countOf, lostOf}
 use Rattle.mending.specs.Mend.{Mended}
 use Rattle.mending.proofs.Outcome.{mended-one}
 use Rattle.answer.specs.declared.mended.Answer.{Answer}
-use Rattle.answer.specs.Text.{over, stripeText, refusalText, refusalPrinted, textRoom}
+use Rattle.text.specs.Text.{over, stripeText, refusalText, refusalPrinted, textRoom}
 use Rattle.answer.specs.Answer.{pairs, described, RecordMended, answerOf, Worked, Answered, TextOf, Printed}
-use Rattle.answer.proofs.Over.{over-least}
-use Rattle.answer.proofs.Printed.{printed-refusal}
+use Rattle.text.proofs.Over.{over-least}
+use Rattle.text.proofs.Printed.{printed-refusal}
 
 -- ---- one outcome
 

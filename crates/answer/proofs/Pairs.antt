@@ -3,14 +3,16 @@ use Prim.Native.Nat.{ℕ, _+_, _*_, _/_, _%_, _≤_, _<_}
 use mathlib.Core.Path.{_≡_, refl, sym, ap, ap₂, _∙_}
 use mathlib.Core.List.{List, [], _∷_, _++_, append-nil}
 use native.Mathlib.Omega.{arith}
-use native.Mathlib.Nat.{div-add-mod'}
+use native.Mathlib.Nat.{div-add-mod', zero-add}
 use lib.ListN.{length, getD, take, drop, set}
 use lib.Seq.{length-take-le, drop-length}
+use Rattle.lanes.specs.Lanes.{onto}
+use Rattle.record.proofs.Survivors.{copied-front}
 use Rattle.mending.specs.Mend.{positions}
-use Rattle.answer.specs.Text.{over}
+use Rattle.text.specs.Text.{over}
 use Rattle.answer.specs.Answer.{pairs}
-use Rattle.answer.proofs.Over.{over-one, over-on, over-long}
-use Rattle.answer.proofs.Pieces.{take-more, take-whole, word-turn}
+use Rattle.text.proofs.Over.{over-one, over-on, over-long}
+use Rattle.text.proofs.Pieces.{take-more, take-whole, word-turn}
 
 pub pairs-length : (es : List ℕ) → length (pairs es) ≡ 2 * length es
 unfolding pairs
@@ -40,6 +42,11 @@ unfolding over
 over-all out xs e =
     let h : 0 + length xs ≡ length out = omega arith in
     ap (λ (n : ℕ). xs ++ drop n out) h ∙ ap (λ (l : List ℕ). xs ++ l) (drop-length out) ∙ append-nil xs
+
+-- a list copied over the front of another
+pub copied-over : (out xs : List ℕ) → length xs ≤ length out → onto (λ (x y : ℕ). y) out xs ≡ over out 0 xs
+unfolding over
+copied-over out xs h = copied-front out xs h ∙ ap (λ (n : ℕ). xs ++ drop n out) (sym (zero-add (length xs)))
 
 -- one turn: the two bytes of a position
 module _ (out₀ w out out′ out″ : List ℕ) (next next′ next″ q : ℕ) (below : q < length w) where

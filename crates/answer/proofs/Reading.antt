@@ -1,12 +1,12 @@
 -- What the report of reading says of a record that is refused and of one that is not.
-use Prim.Native.Nat.{ℕ, zero, _≤_}
+use Prim.Native.Nat.{ℕ, _≤_}
 use mathlib.Core.Path.{_≡_, refl, sym, ap}
 use mathlib.Core.Bool.{Bool, true, false, cond}
 use mathlib.Core.List.{List, [], _∷_}
 use native.Mathlib.Omega.{arith}
 use borrow.Author.Tests.{eqb-true, eq-eqb, ne-eqb}
 use lib.Dec.{eqb, leb}
-use lib.ListN.{length, replicate, length-replicate}
+use lib.ListN.{length, length-replicate}
 use Rattle.stripe.specs.Shape.{shapeRefusal}
 use Rattle.record.specs.declared.read.Got.{Got}
 use Rattle.record.specs.Reading.{firstOf, unless, stripeRefusal, contentRefusal, readRefusal, gotOf, shapeOf, countOf}

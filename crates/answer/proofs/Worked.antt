@@ -6,7 +6,6 @@ use mathlib.Core.Logic.{_⊎_, inl, inr}
 use mathlib.Core.List.{List, _++_}
 use native.Mathlib.Omega.{arith}
 use borrow.Author.Tests.{eq-eqb, le-leb}
-use lib.Dec.{eqb, leb}
 use lib.ListN.{length, take}
 use lib.Seq.{take-at}
 use Rattle.stripe.specs.declared.Shape.{Shape}
@@ -16,10 +15,10 @@ use Rattle.record.specs.Reading.{readRefusal, gotOf, stripeRead, lostRead, shap
 use Rattle.record.proofs.Accepted.{positions-length}
 use Rattle.mending.specs.Mend.{Mended}
 use Rattle.answer.specs.declared.mended.Answer.{Answer}
-use Rattle.answer.specs.Text.{over, stripeText, refusalText, printable, stripePrinted, textRoom}
+use Rattle.text.specs.Text.{over, stripeText, refusalText, printable, stripePrinted, textRoom}
 use Rattle.answer.specs.Answer.{pairs, blankStripe, described, RecordMended, answerOf, Worked, Answered, Printed}
 use Rattle.answer.proofs.Reading.{blank-long, whole, got-number, got-whole, read-says, count-most, read-shaped}
-use Rattle.answer.proofs.Printed.{printed}
+use Rattle.text.proofs.Printed.{printed}
 use Rattle.answer.proofs.Outcome.{zero-or-not, outcome-read, outcome-lent, printed-front}
 
 lost-long : (bs : List ℕ) → length (lostOf bs) ≡ countOf bs

@@ -10,7 +10,7 @@ use Rattle.stripe.specs.Shape.{stripeLength}
 use Rattle.record.specs.Reading.{readRefusal, shapeOf, countOf, lostOf, columnsFilled}
 use Rattle.mending.specs.Mend.{Mended}
 use Rattle.answer.specs.declared.mended.Answer.{Answer}
-use Rattle.answer.specs.Text.{over, stripeText, refusalText, textRoom}
+use Rattle.text.specs.Text.{over, stripeText, refusalText, textRoom}
 
 -- positions as pairs of bytes, low byte first
 unfoldable pub pairs : List ℕ → List ℕ

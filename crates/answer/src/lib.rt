@@ -1,22 +1,14 @@
-// The answer of the mending program: the text that it prints. Each function writes its text over the front of what is lent, leaves
-// what follows, and answers the length of the text; where the text cannot be written it answers 0 and writes nothing.
-use crate::line::put_first;
-use crate::line::put_lines;
-use crate::line::put_number;
+// The answer of the mending program: the text that it prints, written over the front of what is lent; what follows stays. The answer
+// is the length of the text; where there is no room for it, it is 0, and nothing is written.
 use crate::mended::blank_list;
 use crate::mended::blank_stripe;
 use crate::mended::read_and_mend;
-use crate::put::put_word;
-use stripe::Shape;
+use text::write_refusal;
+use text::write_text;
 
-mod line;
 pub mod mended;
-mod put;
 
-ghost use mathlib.Core.Path.{_≡_};
-ghost use lib.ListN.{length};
 ghost use Rattle.answer.specs.Answer.{Printed};
-ghost use Rattle.answer.specs.Text.{over, printable, stripePrinted, refusalPrinted};
 
 // What the mending program prints for a record, with room for 140,000 bytes: the mended stripe, or the refusal alone.
 pub fn answer(bytes: &[u8], out: &mut [u8]) -> usize
@@ -34,46 +26,4 @@ pub fn answer(bytes: &[u8], out: &mut [u8]) -> usize
     let n = (a.shape.k + a.shape.r) * a.shape.l;
     let m = a.lost;
     write_text(a.shape, &list[..m], &held[..n], out)
-}
-
-// The text of a mended stripe of at most 65,536 bytes whose columns `lost` were restored, with room for 140,000 bytes.
-pub fn write_text(s: Shape, lost: &[u16], stripe: &[u8], out: &mut [u8]) -> usize
-    ensures { λ v. ⌜ v ≡ length (stripePrinted s (now (lost .entry)) (now (stripe .entry)) (length (now (out .entry)))) ⌝ }
-    ensures { λ _. ⌜ now (out .exit) ≡ over (now (out .entry)) 0 (stripePrinted s (now (lost .entry)) (now (stripe .entry)) (length (now (out .entry)))) ⌝ }
-{
-    if !can_print(s, stripe.len(), out.len()) {
-        return 0;
-    }
-    let next = put_first(out, 0, s);
-    let l = s.l;
-    let n = s.k + s.r;
-    put_lines(out, next, l, n, lost, stripe)
-}
-
-// The text of a refusal, with room for 40 bytes.
-pub fn write_refusal(number: u32, out: &mut [u8]) -> usize
-    ensures { λ v. ⌜ v ≡ length (refusalPrinted number (length (now (out .entry)))) ⌝ }
-    ensures { λ _. ⌜ now (out .exit) ≡ over (now (out .entry)) 0 (refusalPrinted number (length (now (out .entry)))) ⌝ }
-{
-    if out.len() < 40 {
-        return 0;
-    }
-    let next = put_word(out, 0, b"refused ");
-    put_number(out, next, number as usize, 10)
-}
-
-// Whether n bytes are a stripe that can be printed, and there is room for its text.
-fn can_print(s: Shape, n: usize, room: usize) -> bool
-    ensures { λ v. ⌜ v ≡ printable s n room ⌝ }
-{
-    if s.refusal() != 0 {
-        return false;
-    }
-    if n != (s.k + s.r) * s.l {
-        return false;
-    }
-    if 65536 < n {
-        return false;
-    }
-    140000 <= room
 }

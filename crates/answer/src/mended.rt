@@ -1,6 +1,5 @@
 // A record mended: read and mended in buffers of its own, and only then handed out, so that a refusal writes nothing.
-use crate::put::put_byte;
-use crate::put::put_word;
+use lanes::copy;
 use mending::mend;
 use record::read::read_record;
 use stripe::Shape;
@@ -8,7 +7,7 @@ ghost use mathlib.Core.Path.{_≡_};
 ghost use Prim.Native.Nat.{_+_, _*_, _≤_};
 ghost use lib.ListN.{length};
 ghost use Rattle.mending.specs.Mend.{Mended};
-ghost use Rattle.answer.specs.Text.{over};
+ghost use Rattle.text.specs.Text.{over};
 ghost use Rattle.answer.specs.Answer.{pairs, blankStripe, Answered, Worked};
 
 // What mending a record reports: 0, the shape and the number of lost columns; or a refusal, and zeros.
@@ -36,7 +35,7 @@ pub fn mend_record(bytes: &[u8], stripe: &mut [u8], lost: &mut [u16]) -> Answer
     }
     let n = (a.shape.k + a.shape.r) * a.shape.l;
     let m = a.lost;
-    put_word(stripe, 0, &held[..n]);
+    copy(stripe, &held[..n]);
     put_list(lost, &list[..m]);
     a
 }
@@ -115,8 +114,9 @@ fn put_pairs(lost: &[u16], list: &mut [u8])
     let mut next = 0;
     let mut i = 0;
     while i < lost.len() {
-        next = put_byte(list, next, (lost[i] % 256) as u8);
-        next = put_byte(list, next, (lost[i] / 256) as u8);
+        list[next] = (lost[i] % 256) as u8;
+        list[next + 1] = (lost[i] / 256) as u8;
+        next += 2;
         i += 1;
     }
 }

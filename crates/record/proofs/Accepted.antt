@@ -14,15 +14,15 @@ use Rattle.stripe.specs.declared.Shape.{Shape}
 use Rattle.stripe.specs.Shape.{columns, stripeLength}
 use Rattle.stripe.specs.Stripe.{among, Ascending}
 use Rattle.stripe.proofs.Allowed.{Allowed}
-use Rattle.record.specs.declared.number.Number.{Number}
-use Rattle.record.specs.declared.number.Number.the-variants.{Value, Cut, Malformed}
+use Rattle.stripe.proofs.Lost.{not-among, among-other, among-first}
+use Rattle.number.specs.declared.Number.{Number}
+use Rattle.number.specs.declared.Number.the-variants.{Value, Cut, Malformed}
 use Rattle.record.specs.declared.read.Verdict.the-variants.{Lawful, Refused}
-use Rattle.record.specs.Number.{numberAt, numberRefusal, groupsAt}
+use Rattle.number.specs.Number.{numberAt, numberRefusal, groupsAt}
 use Rattle.record.specs.Layout.{kept}
 use Rattle.record.specs.Reading.{unless, valueOf, nextOf, fourthNumber, countNumber, shapeOf, countOf, lostOf, columnsStart, headRefusal, positionRefusal, positionsRefusal, positionsAt, afterPositions, columnsRefusal, restRefusal, contentRefusal, verdictOf}
-use Rattle.record.proofs.Groups.{View, view, ended, last, more, onto-value}
-use Rattle.record.proofs.Written.{limited-value}
-use Rattle.record.proofs.Survivors.{among-head, among-skip}
+use Rattle.number.proofs.Groups.{View, view, ended, last, more, onto-value}
+use Rattle.number.proofs.Written.{limited-value}
 use Rattle.record.proofs.Refusals.{first-zero, head-described, described}
 
 -- ---- a number that was read
@@ -98,16 +98,11 @@ ascending-below a n [] h i = inr refl
 ascending-below a n (e ∷ es) h zero = inl (h .1)
 ascending-below a n (e ∷ es) h (suc i) = ascending-below (suc e) n es (h .2) i
 
-pub ascending-not : (a n c : ℕ) (es : List ℕ) → Ascending a n es → c < a → among c es ≡ false
-unfolding Ascending among
-ascending-not a n c [] h l = refl
-ascending-not a n c (e ∷ es) h l = among-skip c e es (λ q. omega (arith, h .0)) ∙ ascending-not (suc e) n c es (h .2) (omega (arith, h .0))
-
 kept-past : (e : ℕ) (es : List ℕ) (c m : ℕ) → e < c → kept (e ∷ es) c m ≡ kept es c m
 unfolding kept
 kept-past e es c zero h = refl
 kept-past e es c (suc m) h =
-    ap₂ (λ (b : Bool) (k : ℕ). cond b 0 1 + k) (among-skip c e es (λ q. omega arith)) (kept-past e es (suc c) m (omega arith))
+    ap₂ (λ (b : Bool) (k : ℕ). cond b 0 1 + k) (among-other c e es (λ q. omega arith)) (kept-past e es (suc c) m (omega arith))
 
 -- the columns that survive, and those that are lost, are all of them
 pub kept-one : (es : List ℕ) (c m : ℕ) (b : Bool) → among c es ≡ b → kept es c (suc m) ≡ cond b 0 1 + kept es (suc c) m
@@ -118,7 +113,7 @@ pub kept-lost : (n m a : ℕ) (es : List ℕ) → Ascending a n es → a + m ≡
 unfolding kept Ascending
 kept-lost n zero a [] h e = refl
 kept-lost n zero a (x ∷ es) h e = absurd (omega (arith, h .0, h .1))
-kept-lost n (suc m) a [] h e = omega (arith, kept-one [] a m false (ascending-not (suc a) n a [] tt (omega arith)), kept-lost n m (suc a) [] tt (omega arith))
+kept-lost n (suc m) a [] h e = omega (arith, kept-one [] a m false (not-among a (suc a) n [] tt (omega arith)), kept-lost n m (suc a) [] tt (omega arith))
 kept-lost n (suc m) a (x ∷ es) h e = go (eq-or-lt-of-le (h .0)) (kept-lost n m (suc a) es) (kept-lost n m (suc a) (x ∷ es))
   where
     go : (a ≡ x) ⊎ (a < x) → (Ascending (suc a) n es → suc a + m ≡ n → kept es (suc a) m + length es ≡ m)
@@ -126,12 +121,12 @@ kept-lost n (suc m) a (x ∷ es) h e = go (eq-or-lt-of-le (h .0)) (kept-lost n m
     go (inl q) here there =
         omega (
           arith,
-          kept-one (x ∷ es) a m true (among-head a x es (sym q)),
+          kept-one (x ∷ es) a m true (ap (λ (y : ℕ). among a (y ∷ es)) (sym q) ∙ among-first a es),
           kept-past x es (suc a) m (omega arith),
           here (subst (λ (y : ℕ). Ascending (suc y) n es) (sym q) (h .2)) (omega arith),
         )
     go (inr l) here there =
-        omega (arith, kept-one (x ∷ es) a m false (ascending-not (suc a) n a (x ∷ es) (l, h .1, h .2) (omega arith)), there (l, h .1, h .2) (omega arith))
+        omega (arith, kept-one (x ∷ es) a m false (not-among a (suc a) n (x ∷ es) (l, h .1, h .2) (omega arith)), there (l, h .1, h .2) (omega arith))
 
 -- ---- an accepted record
 

@@ -10,10 +10,10 @@ use lib.Seq.{take-at, drop-at, length-take-le}
 use Rattle.field.specs.Bytes.{Bytes}
 use Rattle.stripe.specs.Shape.{columns, stripeLength}
 use Rattle.stripe.specs.Stripe.{among}
-use Rattle.record.specs.Number.{numberAt, numberRefusal, written}
+use Rattle.number.specs.Number.{numberAt, numberRefusal, written}
 use Rattle.record.specs.Layout.{positions, survivors, kept, restored, recordHead, recordOf}
 use Rattle.record.specs.Reading.{valueOf, nextOf, firstNumber, secondNumber, thirdNumber, fourthNumber, countNumber, shapeOf, countOf, lostOf, columnsStart, headRefusal, positionsRefusal, positionsAt, afterPositions, contentRefusal, columnsFilled}
-use Rattle.record.proofs.Written.{only-written}
+use Rattle.number.proofs.Written.{only-written}
 use Rattle.record.proofs.Survivors.{restored-lost, restored-kept, survivors-lost, survivors-kept}
 use Rattle.record.proofs.Refusals.{first-zero}
 use Rattle.record.proofs.Accepted.{Accepted, accepted, number-is, position-zero, positions-zero, positions-length, kept-lost, kept-one}

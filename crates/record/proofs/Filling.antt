@@ -1,8 +1,8 @@
 -- A lawful record has what its fillers need: room, columns, and positions of 16 bits.
-use Prim.Native.Nat.{ℕ, _+_, _-_, _*_, _≤_, _<_}
+use Prim.Native.Nat.{ℕ, _-_, _*_, _≤_, _<_}
 use mathlib.Core.Path.{_≡_, sym, ap, ap₂, subst, _∙_}
 use mathlib.Core.List.{List, _++_}
-use mathlib.Core.Logic.{_⊎_, ⊎-elim}
+use mathlib.Core.Logic.{⊎-elim}
 use native.Mathlib.Omega.{arith}
 use lib.Dec.{leb, eqb}
 use lib.ListN.{length, getD, take, drop, length-drop}
@@ -65,13 +65,13 @@ module _ (s : List ℕ) (sh : Shape) (m f e : ℕ) (law : Lawful sh m f e ≡ ve
         ap (λ (n : ℕ). n * shapeOf s .l) survive,
       )
 
-  pub fill-columns-is : (es xs : List ℕ) → es ≡ lostOf s → restored (sh .l) es 0 (columns sh) (take (length s - e) (drop e s)) xs ≡ columnsFilled s xs
-  fill-columns-is es xs q =
-      ap₂ (λ (x : List ℕ) (v : Shape). restored (v .l) x 0 (columns v) (take (length s - e) (drop e s)) xs) q (says .1)
+  pub fill-columns-is : (es xs xs′ : List ℕ) → es ≡ lostOf s → xs′ ≡ restored (sh .l) es 0 (columns sh) (take (length s - e) (drop e s)) xs → xs′ ≡ columnsFilled s xs
+  fill-columns-is es xs xs′ q w =
+      w ∙ ap₂ (λ (x : List ℕ) (v : Shape). restored (v .l) x 0 (columns v) (take (length s - e) (drop e s)) xs) q (says .1)
       ∙ ap (λ (ys : List ℕ). restored (shapeOf s .l) (lostOf s) 0 (columns (shapeOf s)) ys xs) fill-rest
 
-  pub fill-positions-is : (es : List ℕ) → positionsAt s m f ++ drop m es ≡ positionsFilled s es
-  fill-positions-is es = ap₂ (λ (x : List ℕ) (n : ℕ). x ++ drop n es) lost-is (says .2)
+  pub fill-positions-is : (es es′ : List ℕ) → es′ ≡ positionsAt s m f ++ drop m es → es′ ≡ positionsFilled s es
+  fill-positions-is es es′ w = w ∙ ap₂ (λ (x : List ℕ) (n : ℕ). x ++ drop n es) lost-is (says .2)
 
   pub fill-got : _≡_ {A = Got} (record { number = 0; shape = sh; lost = m }) (record { number = 0; shape = shapeOf s; lost = countOf s })
   fill-got = ap₂ read (says .1) (says .2)

@@ -1,12 +1,7 @@
-pub mod Groups
-pub mod Written
-pub mod Placed
 pub mod Survivors
 pub mod Refusals
 pub mod Listing
 pub mod Accepted
 pub mod Filling
-pub mod Putting
 pub mod Exactly
-pub mod Inverse
 pub mod Unique

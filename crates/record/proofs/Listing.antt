@@ -9,9 +9,9 @@ use lib.Dec.{leb}
 use lib.ListN.{length, getD, take, drop, set, take-append-drop}
 use lib.Seq.{take-suc-set, drop-set-lt, append-snoc}
 use borrow.Author.Tests.{leb-true}
-use Rattle.record.specs.declared.number.Number.{Number}
-use Rattle.record.specs.declared.number.Number.the-variants.{Value, Cut, Malformed}
-use Rattle.record.specs.Number.{numberAt, limited, groupsAt}
+use Rattle.number.specs.declared.Number.{Number}
+use Rattle.number.specs.declared.Number.the-variants.{Value, Cut, Malformed}
+use Rattle.number.specs.Number.{numberAt, limited, groupsAt}
 use Rattle.record.specs.Reading.{valueOf, nextOf, positionsAt}
 
 -- a number is at most 2^32-1

@@ -10,12 +10,12 @@ use borrow.Author.Tests.{lt-ltb, le-ltb, le-leb, lt-leb, eq-eqb, ne-eqb, leb-tru
 use Rattle.stripe.specs.declared.Shape.{Shape}
 use Rattle.stripe.specs.Shape.{shapeRefusal, columns, stripeLength}
 use Rattle.stripe.proofs.Allowed.{Allowed, allowed}
-use Rattle.record.specs.declared.number.Number.{Number}
+use Rattle.number.specs.declared.Number.{Number}
 use Rattle.record.specs.declared.read.Got.{Got}
 use Rattle.record.specs.declared.read.Head.the-variants.{Shaped, Unshaped}
 use Rattle.record.specs.declared.read.Listed.the-variants.{Upto, Unlisted}
 use Rattle.record.specs.declared.read.Verdict.the-variants.{Lawful, Refused}
-use Rattle.record.specs.Number.{numberAt, numberRefusal}
+use Rattle.number.specs.Number.{numberAt, numberRefusal}
 use Rattle.record.specs.Reading.{firstOf, unless, valueOf, nextOf, firstNumber, secondNumber, thirdNumber, fourthNumber, countNumber, shapeOf, countOf, columnsStart, stripeRefusal, headRefusal, positionRefusal, positionsRefusal, afterPositions, columnsRefusal, restRefusal, contentRefusal, headOf, listedOf, restOf, verdictOf}
 
 -- ---- the first of several

@@ -4,39 +4,15 @@ use contract.Lifetimes.{Lfts}
 use borrow.Fn.World.{ArgsD, ResD}
 use denote.Triple.Clauses.{AtExit}
 use denote.Ref.{now}
-use Rattle.record.proofs.number.read_number as read-number
-use Rattle.record.proofs.number.read_number.Reads as read-number-reads
-use Rattle.record.proofs.number.number_refusal as number-refusal
-use Rattle.record.proofs.number.number_refusal.Reads as number-refusal-reads
-use Rattle.record.proofs.number.number_length as number-length
-use Rattle.record.proofs.number.number_length.Reads as number-length-reads
-use Rattle.record.proofs.number.write_number as write-number
-use Rattle.record.proofs.number.write_number.Reads as write-number-reads
+use Rattle.record.proofs.read.stripe_refusal as stripe-refusal
+use Rattle.record.proofs.read.stripe_refusal.Reads as stripe-refusal-reads
 use Rattle.record.proofs.read.read_record as read-record
 use Rattle.record.proofs.read.read_record.Reads as read-record-reads
-use Rattle.record.proofs.write.write_record as write-record
-use Rattle.record.proofs.write.write_record.Reads as write-record-reads
 
-pub read-number-unique : (κs : Lfts 1) (a : ArgsD read-number.signature κs) (r r′ : ResD read-number.signature κs) (s s′ : AtExit read-number.ended κs)
-    → read-number-reads.Post κs a r s → read-number-reads.Post κs a r′ s′ → r ≡ r′
-read-number-unique κs a r r′ s s′ p q = p ∙ sym q
-
-pub number-refusal-unique : (κs : Lfts 0) (a : ArgsD number-refusal.signature κs) (r r′ : ResD number-refusal.signature κs) (s s′ : AtExit number-refusal.ended κs)
-    → number-refusal-reads.Post κs a r s → number-refusal-reads.Post κs a r′ s′ → r ≡ r′
-number-refusal-unique κs a r r′ s s′ p q = p ∙ sym q
-
-pub number-length-unique : (κs : Lfts 0) (a : ArgsD number-length.signature κs) (r r′ : ResD number-length.signature κs) (s s′ : AtExit number-length.ended κs)
-    → number-length-reads.Post κs a r s → number-length-reads.Post κs a r′ s′ → r ≡ r′
-number-length-unique κs a r r′ s s′ p q = p ∙ sym q
-
-pub write-number-unique : (κs : Lfts 1) (a : ArgsD write-number.signature κs) (r r′ : ResD write-number.signature κs) (s s′ : AtExit write-number.ended κs)
-    → write-number-reads.Post κs a r s → write-number-reads.Post κs a r′ s′ → (r ≡ r′) × (now (s .1 .0) ≡ now (s′ .1 .0))
-write-number-unique κs a r r′ s s′ p q = (p .0 ∙ sym (q .0), p .1 ∙ sym (q .1))
+pub stripe-refusal-unique : (κs : Lfts 0) (a : ArgsD stripe-refusal.signature κs) (r r′ : ResD stripe-refusal.signature κs) (s s′ : AtExit stripe-refusal.ended κs)
+    → stripe-refusal-reads.Post κs a r s → stripe-refusal-reads.Post κs a r′ s′ → r ≡ r′
+stripe-refusal-unique κs a r r′ s s′ p q = p ∙ sym q
 
 pub read-record-unique : (κs : Lfts 3) (a : ArgsD read-record.signature κs) (r r′ : ResD read-record.signature κs) (s s′ : AtExit read-record.ended κs)
     → read-record-reads.Post κs a r s → read-record-reads.Post κs a r′ s′ → (r ≡ r′) × ((now (s .1 .0) ≡ now (s′ .1 .0)) × (now (s .1 .1 .0) ≡ now (s′ .1 .1 .0)))
 read-record-unique κs a r r′ s s′ p q = (p .0 ∙ sym (q .0), (p .1 .0 ∙ sym (q .1 .0), p .1 .1 ∙ sym (q .1 .1)))
-
-pub write-record-unique : (κs : Lfts 3) (a : ArgsD write-record.signature κs) (r r′ : ResD write-record.signature κs) (s s′ : AtExit write-record.ended κs)
-    → write-record-reads.Post κs a r s → write-record-reads.Post κs a r′ s′ → (r ≡ r′) × (now (s .1 .1 .1 .0) ≡ now (s′ .1 .1 .1 .0))
-write-record-unique κs a r r′ s s′ p q = (p .0 ∙ sym (q .0), p .1 ∙ sym (q .1))

@@ -8,7 +8,7 @@ use lib.ListN.{length, take, drop}
 use Rattle.stripe.specs.declared.Shape.{Shape}
 use Rattle.stripe.specs.Shape.{shapeRefusal, columns, stripeLength}
 use Rattle.stripe.specs.Stripe.{among, Ascending}
-use Rattle.record.specs.Number.{written}
+use Rattle.number.specs.Number.{written}
 
 -- the positions of the lost columns, one number after the other
 unfoldable pub positions : List ℕ → List ℕ

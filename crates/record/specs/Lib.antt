@@ -1,4 +1,2 @@
-pub mod Number
 pub mod Layout
 pub mod Reading
-pub mod Writing

@@ -7,8 +7,8 @@ use lib.Dec.{leb, ltb, eqb}
 use lib.ListN.{length, drop}
 use Rattle.stripe.specs.declared.Shape.{Shape}
 use Rattle.stripe.specs.Shape.{shapeRefusal, columns, stripeLength}
-use Rattle.record.specs.declared.number.Number.{Number}
-use Rattle.record.specs.declared.number.Number.the-variants.{Value, Cut, Malformed}
+use Rattle.number.specs.declared.Number.{Number}
+use Rattle.number.specs.declared.Number.the-variants.{Value, Cut, Malformed}
 use Rattle.record.specs.declared.read.Got.{Got}
 use Rattle.record.specs.declared.read.Head.{Head}
 use Rattle.record.specs.declared.read.Head.the-variants.{Shaped, Unshaped}
@@ -16,7 +16,7 @@ use Rattle.record.specs.declared.read.Listed.{Listed}
 use Rattle.record.specs.declared.read.Listed.the-variants.{Upto, Unlisted}
 use Rattle.record.specs.declared.read.Verdict.{Verdict}
 use Rattle.record.specs.declared.read.Verdict.the-variants.{Lawful, Refused}
-use Rattle.record.specs.Number.{numberAt, numberRefusal}
+use Rattle.number.specs.Number.{numberAt, numberRefusal}
 use Rattle.record.specs.Layout.{restored}
 
 -- the first refusal of several, 0 where there is none

@@ -1,5 +1,3 @@
-// Stripe records: the numbers that they are made of, reading them and writing them.
+// Stripe records: reading them. Their layout, which writing shares, is `specs/Layout.antt`.
 mod columns;
-pub mod number;
 pub mod read;
-pub mod write;

@@ -1,8 +1,8 @@
 // Reading a record, front to back: it is judged whole by pure functions, and only then anything is written.
 use crate::columns::fill_columns;
-use crate::number::Number;
-use crate::number::number_refusal;
-use crate::number::read_number;
+use number::Number;
+use number::number_refusal;
+use number::read_number;
 use stripe::Shape;
 ghost use mathlib.Core.Path.{_≡_};
 ghost use mathlib.Core.List.{_++_};
@@ -18,19 +18,19 @@ pub struct Got {
 }
 
 // The shape at the front of a record and the place after it, or a refusal.
-pub(crate) enum Head {
+enum Head {
     Shaped(Shape, usize),
     Unshaped(u32),
 }
 
 // The place after the lost positions, or a refusal.
-pub(crate) enum Listed {
+enum Listed {
     Upto(usize),
     Unlisted(u32),
 }
 
 // A lawful record's shape, lost count, and where its positions and its columns start; or a refusal.
-pub(crate) enum Verdict {
+enum Verdict {
     Lawful(Shape, usize, usize, usize),
     Refused(u32),
 }
@@ -58,7 +58,7 @@ fn next_of(g: Number) -> usize
 }
 
 // 1 or 2 for the shape, else 5 where the stripe has more than 65,536 bytes, else 0.
-pub(crate) fn stripe_refusal(s: Shape) -> u32
+pub fn stripe_refusal(s: Shape) -> u32
     ensures { λ r. ⌜ r ≡ stripeRefusal s ⌝ }
 {
     let no = s.refusal();

@@ -1,11 +1,12 @@
 -- A lent buffer of another length is refused; else the buffers that were worked in are handed out, or nothing is.
 use Prim.Native.Nat.{_+_, _*_}
-use mathlib.Core.Path.{sym, ap}
+use mathlib.Core.Path.{sym, ap, _∙_}
 use mathlib.Core.List.{[]}
 use native.Mathlib.Omega.{arith}
 use denote.Ref.{now}
-use lib.ListN.{length, take}
+use lib.ListN.{length, take, length-take}
 use lib.Seq.{length-take-le}
+use Rattle.answer.proofs.Pairs.{copied-over}
 use Rattle.answer.proofs.Reading.{blank-long, lent-stripe, lent-list}
 use Rattle.answer.proofs.Outcome.{outcome-unread, outcome-lent, answered-refused}
 use Rattle.answer.proofs.Worked.{answer-columns, answer-stripe, answer-list, answered}
@@ -79,19 +80,14 @@ array-share-prefix-held c =
     let a = c .before .before .before .before .before .before .before .before .before .before .before .before .before .before .before .before .before .args in
     omega (arith, answer-stripe (now (a .bytes)) (r .result) (r .last .1 .0) (r .last .1 .1 .0) (r .ensures) (c .before .before .before .if3 .left), ap length (c .before .before .before .before .before .before .before .before .before .before .before .blank-stripe .ensures), blank-long)
 
-slice-aggregate-put-word : tie.Need-slice-aggregate-put-word
-slice-aggregate-put-word c =
+slice-aggregate-copy : tie.Need-slice-aggregate-copy
+slice-aggregate-copy c =
     let r = c .before .before .before .before .before .before .before .before .read-and-mend in
     let a = c .before .before .before .before .before .before .before .before .before .before .before .before .before .before .before .before .before .before .args in
     sym (length-take-le ((r .result .shape .k + r .result .shape .r) * r .result .shape .l) (r .last .1 .0) (omega (arith, answer-stripe (now (a .bytes)) (r .result) (r .last .1 .0) (r .last .1 .1 .0) (r .ensures) (c .before .before .before .before .if3 .left), ap length (c .before .before .before .before .before .before .before .before .before .before .before .before .blank-stripe .ensures), blank-long)))
 
-put-word-requires : tie.Need-put-word-requires
-put-word-requires c κs =
-    let r = c .before .before .before .before .before .before .before .before .read-and-mend in
-    let a = c .before .before .before .before .before .before .before .before .before .before .before .before .before .before .before .before .before .before .args in
-    let n = answer-stripe (now (a .bytes)) (r .result) (r .last .1 .0) (r .last .1 .1 .0) (r .ensures) (c .before .before .before .before .if3 .left) in
-    let l = length-take-le ((r .result .shape .k + r .result .shape .r) * r .result .shape .l) (r .last .1 .0) (omega (arith, n, ap length (c .before .before .before .before .before .before .before .before .before .before .before .before .blank-stripe .ensures), blank-long)) in
-    omega (arith, n, l, c .before .before .before .before .before .before .before .before .before .before .before .before .before .before .if1 .left)
+copy-requires : tie.Need-copy-requires
+copy-requires c κs = search needs
 
 array-share-prefix-list : tie.Need-array-share-prefix-list
 array-share-prefix-list c =
@@ -123,8 +119,9 @@ returns-4 : tie.Need-returns-4
 returns-4 c =
     let r = c .before .before .before .before .before .before .before .before .before .before .before .before .before .before .before .before .read-and-mend in
     let a = c .before .before .before .before .before .before .before .before .before .before .before .before .before .before .before .before .before .before .before .before .before .before .before .before .before .before .args in
+    let n = (r .result .shape .k + r .result .shape .r) * r .result .shape .l in
     answered (now (a .bytes)) (r .result) (r .last .1 .0) (r .last .1 .1 .0) (r .ensures) (c .before .before .before .before .before .before .before .before .before .before .before .before .if3 .left) (now (a .stripe)) (now (a .lost)) _ _ (c .before .before .before .before .before .before .before .before .before .before .before .before .before .before .before .before .before .before .before .before .before .before .if1 .left) (c .before .before .before .before .before .before .before .before .before .before .before .before .before .before .before .before .before .before .before .before .before .if2 .left)
-    (c .before .before .before .before .before .before .before .put-word .ensures .1) (c .before .before .put-list .ensures)
+    (c .before .before .before .before .before .before .before .copy .ensures ∙ copied-over (now (a .stripe)) (take n (r .last .1 .0)) (omega (arith, length-take n (r .last .1 .0), answer-stripe (now (a .bytes)) (r .result) (r .last .1 .0) (r .last .1 .1 .0) (r .ensures) (c .before .before .before .before .before .before .before .before .before .before .before .before .if3 .left), c .before .before .before .before .before .before .before .before .before .before .before .before .before .before .before .before .before .before .before .before .before .before .if1 .left))) (c .before .before .put-list .ensures)
 
 pub mend-record-spec : {M : Type 1} → statement M
 mend-record-spec =
@@ -144,8 +141,8 @@ mend-record-spec =
     add-n
     mul-n
     array-share-prefix-held
-    slice-aggregate-put-word
-    put-word-requires
+    slice-aggregate-copy
+    copy-requires
     array-share-prefix-list
     slice-aggregate-put-list
     put-list-requires

@@ -1,13 +1,13 @@
 -- After i turns the pairs of the first i positions are written.
 use borrow.Author.Needs.{needs}
-use Prim.Native.Nat.{_-_, _*_, _≤_}
+use Prim.Native.Nat.{_+_, _-_, _*_, _/_, _%_, _≤_}
 use mathlib.Core.Path.{_≡_, refl}
 use native.Mathlib.Omega.{arith}
 use denote.Ref.{now}
-use lib.ListN.{length, take}
-use Rattle.answer.specs.Text.{over}
+use lib.ListN.{length, getD, take, set, length-set}
+use Rattle.text.specs.Text.{over}
 use Rattle.answer.specs.Answer.{pairs}
-use Rattle.answer.proofs.Over.{over-none}
+use Rattle.text.proofs.Over.{over-none, over-one}
 use Rattle.answer.proofs.Pairs.{pairs-turn, pairs-done}
 use Rattle.answer.proofs.mended.put_pairs.Statement.{statement}
 use Rattle.answer.proofs.mended.put_pairs.Tie as tie
@@ -23,29 +23,35 @@ loop-holds : tie.Need-loop-holds Inv-loop μ-loop
 unfolding pairs
 loop-holds c = (search needs, (search needs, (refl, over-none _ _)))
 
-mul-put-byte : tie.Need-mul-put-byte Inv-loop μ-loop
-mul-put-byte c = search needs
+mul-list : tie.Need-mul-list Inv-loop μ-loop
+mul-list c = search needs
 
-shared-slice-read-put-byte : tie.Need-shared-slice-read-put-byte Inv-loop μ-loop
-shared-slice-read-put-byte c = search needs
+shared-slice-read-list : tie.Need-shared-slice-read-list Inv-loop μ-loop
+shared-slice-read-list c = search needs
 
-cast-put-byte : tie.Need-cast-put-byte Inv-loop μ-loop
-cast-put-byte c = omega arith
+cast-list : tie.Need-cast-list Inv-loop μ-loop
+cast-list c = omega arith
 
-put-byte-requires : tie.Need-put-byte-requires Inv-loop μ-loop
-put-byte-requires c κs = omega arith
+slice-write-list : tie.Need-slice-write-list Inv-loop μ-loop
+slice-write-list c = omega arith
 
-mul-put-byte-2 : tie.Need-mul-put-byte-2 Inv-loop μ-loop
-mul-put-byte-2 c = search needs
+mul-list-2 : tie.Need-mul-list-2 Inv-loop μ-loop
+mul-list-2 c = search needs
 
-shared-slice-read-put-byte-2 : tie.Need-shared-slice-read-put-byte-2 Inv-loop μ-loop
-shared-slice-read-put-byte-2 c = search needs
+shared-slice-read-list-2 : tie.Need-shared-slice-read-list-2 Inv-loop μ-loop
+shared-slice-read-list-2 c = search needs
 
-cast-put-byte-2 : tie.Need-cast-put-byte-2 Inv-loop μ-loop
-cast-put-byte-2 c = omega (arith, c .shared-slice-known3 .given (c .before .before .before .before .before .before .before .before .loop .i))
+cast-list-2 : tie.Need-cast-list-2 Inv-loop μ-loop
+cast-list-2 c = omega (arith, c .shared-slice-known2 .given (c .before .before .before .loop .i))
 
-put-byte-requires-2 : tie.Need-put-byte-requires-2 Inv-loop μ-loop
-put-byte-requires-2 c κs = omega arith
+add-list : tie.Need-add-list Inv-loop μ-loop
+add-list c = search needs
+
+slice-write-list-2 : tie.Need-slice-write-list-2 Inv-loop μ-loop
+slice-write-list-2 c = simp length-set (omega arith)
+
+add-next : tie.Need-add-next Inv-loop μ-loop
+add-next c = search needs
 
 add-i : tie.Need-add-i Inv-loop μ-loop
 add-i c = search needs
@@ -55,13 +61,14 @@ loop-less c = search needs
 
 loop-again : tie.Need-loop-again Inv-loop μ-loop
 loop-again c =
-    let l = c .before .before .before .before .before .before .before .before .before .before .before in
-    let s = l .before .before .before in
-    let u = c .before .before .before .before .before .before .before .put-byte in
-    let v = c .before .before .put-byte2 in (
+    let l = c .before .before .before in
+    let s = l .before in
+    let x = getD (now (s .args .lost)) (l .loop .i) 0 in
+    let xs = set (l .loop .list) (l .loop .next) (x % 256) in (
       search needs,
-      pairs-turn (now (s .args .list)) (now (s .args .lost)) (l .loop .list) (u .last .0) (v .last .0) (l .loop .next) (u .result) (v .result) (l .loop .i)
-          (c .before .before .before .before .before .before .before .before .before .before .loop-test .taken) (l .loop .inv .1 .0) (l .loop .inv .1 .1 .1) (u .ensures .0) (u .ensures .1) (v .ensures .0) (v .ensures .1) (s .pre),
+      pairs-turn (now (s .args .list)) (now (s .args .lost)) (l .loop .list) xs (set xs (l .loop .next + 1) (x / 256)) (l .loop .next) (l .loop .next + 1) (l .loop .next + 2) (l .loop .i)
+          (c .before .before .loop-test .taken) (l .loop .inv .1 .0) (l .loop .inv .1 .1 .1) refl (over-one (l .loop .list) (l .loop .next) (x % 256) (omega arith)) (omega arith)
+          (over-one xs (l .loop .next + 1) (x / 256) (simp length-set (omega arith))) (s .pre),
     )
 
 same-length : tie.Need-same-length Inv-loop μ-loop
@@ -70,7 +77,7 @@ same-length c = search needs
 returns : tie.Need-returns Inv-loop μ-loop
 returns c =
     let l = c .before in
-    let s = l .before .before .before in
+    let s = l .before in
     pairs-done (now (s .args .list)) (now (s .args .lost)) (l .loop .list) (l .loop .i) (search needs) (s .pre) (l .loop .inv .1 .1 .1)
 
 pub put-pairs-spec : {M : Type 1} → statement M
@@ -80,14 +87,16 @@ put-pairs-spec =
     Inv-loop
     μ-loop
     loop-holds
-    mul-put-byte
-    shared-slice-read-put-byte
-    cast-put-byte
-    put-byte-requires
-    mul-put-byte-2
-    shared-slice-read-put-byte-2
-    cast-put-byte-2
-    put-byte-requires-2
+    mul-list
+    shared-slice-read-list
+    cast-list
+    slice-write-list
+    mul-list-2
+    shared-slice-read-list-2
+    cast-list-2
+    add-list
+    slice-write-list-2
+    add-next
     add-i
     loop-less
     loop-again

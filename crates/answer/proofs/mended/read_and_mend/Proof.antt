@@ -4,7 +4,7 @@ use mathlib.Core.Path.{sym, ap}
 use mathlib.Core.List.{[]}
 use native.Mathlib.Omega.{arith}
 use denote.Ref.{now}
-use lib.ListN.{length, take}
+use lib.ListN.{length}
 use lib.Seq.{length-take-le}
 use Rattle.answer.proofs.Reading.{blank-long}
 use Rattle.answer.proofs.Outcome.{outcome-unread, worked-refused}

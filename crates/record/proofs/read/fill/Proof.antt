@@ -1,5 +1,5 @@
 -- `fill` meets its contract: a lawful record has what both fillers need.
-use mathlib.Core.Path.{sym, _∙_}
+use mathlib.Core.Path.{sym}
 use native.Mathlib.Omega.{arith}
 use lib.Seq.{length-take-le}
 use borrow.Author.Needs.{needs}
@@ -62,9 +62,11 @@ same-length-2 c = search needs
 returns : tie.Need-returns
 returns c =
     let a = c .before .before .before .before .before .before .before .before .before .before .before .before .before .before .args in
-    let p = c .before .before .before .before .before .before .before .before .before .before .before .before .before .before .pre in (
-      c .before .before .fill-columns .ensures ∙ fill-columns-is (now (a .bytes)) (a .shape) (a .m) (a .first) (a .end) (p .0) _ (now (a .stripe)) (fill-front (now (a .bytes)) (a .shape) (a .m) (a .first) (a .end) (p .0) (now (a .lost)) (c .before .before .before .before .before .before .before .before .before .fill-lost .last .1 .1 .1 .0) (c .before .before .before .before .before .before .before .before .before .fill-lost .ensures)),
-      c .before .before .before .before .before .before .before .before .before .fill-lost .ensures ∙ fill-positions-is (now (a .bytes)) (a .shape) (a .m) (a .first) (a .end) (p .0) (now (a .lost)),
+    let p = c .before .before .before .before .before .before .before .before .before .before .before .before .before .before .pre in
+    let l = c .before .before .before .before .before .before .before .before .before .fill-lost in (
+      fill-columns-is (now (a .bytes)) (a .shape) (a .m) (a .first) (a .end) (p .0) _ (now (a .stripe)) _
+          (fill-front (now (a .bytes)) (a .shape) (a .m) (a .first) (a .end) (p .0) (now (a .lost)) (l .last .1 .1 .1 .0) (l .ensures)) (c .before .before .fill-columns .ensures),
+      fill-positions-is (now (a .bytes)) (a .shape) (a .m) (a .first) (a .end) (p .0) (now (a .lost)) (l .last .1 .1 .1 .0) (l .ensures),
     )
 
 pub fill-spec : {M : Type 1} → statement M

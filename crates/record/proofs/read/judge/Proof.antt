@@ -2,7 +2,7 @@
 use mathlib.Core.Path.{sym, ap, ap₂, _∙_}
 use borrow.Author.Needs.{needs}
 use denote.Ref.{now}
-use Rattle.record.specs.Number.{numberAt}
+use Rattle.number.specs.Number.{numberAt}
 use Rattle.record.specs.Reading.{stripeRefusal, restOf}
 use Rattle.record.proofs.Refusals.{head-shaped, head-not, head-described, refused-head, judged-rest}
 use Rattle.record.proofs.read.judge.Statement.{statement}

@@ -4,7 +4,7 @@ use mathlib.Core.Path.{_≡_, refl, sym, ap, ap₂, _∙_}
 use native.Mathlib.Omega.{arith}
 use borrow.Author.Needs.{needs}
 use denote.Ref.{now}
-use Rattle.record.specs.declared.number.Number.{Number}
+use Rattle.number.specs.declared.Number.{Number}
 use Rattle.record.specs.declared.read.Listed.the-variants.{Upto}
 use Rattle.record.specs.Reading.{valueOf, nextOf, positionRefusal, positionsRefusal, afterPositions}
 use Rattle.record.proofs.Listing.{value-most}

@@ -1,0 +1,4 @@
+pub mod Groups
+pub mod Written
+pub mod Placed
+pub mod Unique

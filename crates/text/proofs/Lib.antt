@@ -1,0 +1,5 @@
+pub mod Over
+pub mod Pieces
+pub mod Lines
+pub mod Printed
+pub mod Unique

@@ -1,0 +1,4 @@
+pub mod Surviving
+pub mod Putting
+pub mod Inverse
+pub mod Unique

@@ -1,0 +1,37 @@
+-- Writing a record (document 01, 'Stripe records' and 'Refusal numbers').
+use Prim.Native.Nat.{ℕ, suc}
+use mathlib.Core.Bool.{Bool, true, cond, _&&_}
+use mathlib.Core.List.{List, [], _∷_}
+use lib.Dec.{leb, ltb, eqb}
+use lib.ListN.{length}
+use Rattle.stripe.specs.declared.Shape.{Shape}
+use Rattle.stripe.specs.Shape.{columns, stripeLength}
+use Rattle.writing.specs.declared.Written.{Written}
+use Rattle.number.specs.Number.{placed}
+use Rattle.record.specs.Layout.{recordOf}
+use Rattle.record.specs.Reading.{firstOf, unless, stripeRefusal}
+
+-- positions strictly ascending, each at least a and below n (so there are at most n of them)
+unfoldable pub ascends : ℕ → ℕ → List ℕ → Bool
+ascends a n [] = true
+ascends a n (e ∷ es) = leb a e && ltb e n && ascends (suc e) n es
+
+-- 1, 2; 5 for the stripe; 6; then 5 for the record's own length and the output, which depend on the list
+unfoldable pub writeRefusal : Shape → List ℕ → List ℕ → ℕ → ℕ
+writeRefusal s xs es room =
+    firstOf (stripeRefusal s
+    ∷ unless (eqb (length xs) (stripeLength s)) 5
+    ∷ unless (ascends 0 (columns s) es) 6
+    ∷ unless (leb (length (recordOf s es xs)) 65536) 5
+    ∷ unless (leb (length (recordOf s es xs)) room) 5
+    ∷ [])
+
+-- what writing reports: the record's length, or a refusal
+abbrev pub writtenOf : Shape → List ℕ → List ℕ → ℕ → Written
+writtenOf s xs es room =
+    cond (eqb (writeRefusal s xs es room) 0) (record { number = 0; length = length (recordOf s es xs) })
+    (record { number = writeRefusal s xs es room; length = 0 })
+
+-- the lent buffer after writing: the record at its front
+abbrev pub outWritten : Shape → List ℕ → List ℕ → List ℕ → List ℕ
+outWritten s xs es out = cond (eqb (writeRefusal s xs es (length out)) 0) (placed out 0 (recordOf s es xs)) out

@@ -1,77 +1,121 @@
-/* Times the exported functions against ISA-L on the same buffers: batches of ours, of ISA-L's and of memcpy (the roof) take turns, and the
- * medians count. Speeds are GB/s of the bytes that a call covers. Both must give the same bytes. On aarch64 a ratio below its threshold
- * fails; elsewhere ratios are only reported. Exit: 0, or 1 for a difference or a ratio too low. */
+/* Times the exported functions against two peers, ISA-L and jerasure, on the same buffers: batches of ours, of theirs and of memcpy (the
+ * roof) take turns, and the medians count. Speeds are GB/s of the bytes that a call covers.
+ *
+ * Whatever ours does, a peer does as weighted sums of columns, stated here operation by operation. Its weights, inverses and tables are
+ * made outside the timed part; ours solves inside. Where ours judges a surviving column, a peer makes that column too and compares it.
+ * All must give the same bytes. On aarch64 a ratio to ISA-L below its threshold fails; elsewhere ratios are only reported.
+ * Exit: 0, or 1 for a difference or a ratio too low. */
 #define _POSIX_C_SOURCE 200809L
-#include "has.h"
 #include "shelf.h"
 
 #include <isa-l/erasure_code.h>
+#include <jerasure.h>
 #include <stdio.h>
 #include <stdlib.h>
 #include <string.h>
 #include <time.h>
 
-#ifndef ROUNDS
-#define ROUNDS 31
-#endif
-#ifndef BATCH
-#define BATCH (2 << 20)                                        /* bytes that a batch covers, or one call's */
-#endif
-enum { MOST = 258 * 4096, SOURCES = 510, JOBS = 8 };
+enum { MOST = 258 * 4096, SOURCES = 300, JOBS = 9 };
+enum { ROUNDS = 31, BATCH = 2 << 20 };                         /* a batch covers BATCH bytes, or one call's */
+enum { OURS, ISAL, JERASURE, ROOF, SIDES };
 
-/* What stands in a contest: the numbers, our buffers, and ISA-L's columns beside ours. */
-static int K, R, T, L, failed;
+#ifdef __aarch64__
+#define MACHINE "aarch64"
+#else
+#define MACHINE "x86-64"
+#endif
+
+/* The thresholds, as ratios to ISA-L. Fold C has one more, and so has mending at L = 64. */
+static const struct { const char *what; int k, r, t, l[4]; double least; } thresholds[] = {
+    {"encode", 4, 2, 0, {64, 512, 4095, 4096}, 1.6},
+    {"encode", 12, 2, 0, {64, 512, 4095, 4096}, 1.6},
+    {"encode", 12, 3, 0, {64, 512, 4095, 4096}, 1.2},
+    {"encode", 100, 3, 0, {64, 512, 4095, 4096}, 1.2},
+    {"check", 12, 2, 0, {64, 512, 4095, 4096}, 1.6},
+    {"mend 1", 12, 2, 0, {512, 4095, 4096}, 1.2},
+    {"mend 2", 12, 2, 0, {512, 4096}, 0.9},
+    {"fold A, N=3", 4, 2, 0, {512, 4096}, 1.0},
+    {"fold B, N=3", 4, 1, 2, {4096}, 0.8},
+    {"fold B, N=3", 4, 2, 3, {4080, 4095}, 0.8},
+};
+
+/* What stands in a contest: the numbers, our buffer, and the peers' columns beside ours. */
+static int K, R, T, L, run, failed;                            /* run: the bytes of a run, L if the stripe is plain */
 static size_t covered;                                         /* bytes of a call that the speed counts */
-static uint8_t whole[MOST] __attribute__((aligned(64))), other[MOST] __attribute__((aligned(64))), theirs[3 * 4096] __attribute__((aligned(64)));
+static uint8_t whole[MOST] __attribute__((aligned(4096))), copy[MOST] __attribute__((aligned(4096)));
+static uint8_t theirs[3 * 4096] __attribute__((aligned(4096)));
 static uint8_t *ours_at[3];                                    /* column i of our answer; theirs is theirs + i*L */
-static int columns, judged_from;                               /* columns from judged_from on are not written but compared, inside the timed part */
+static int columns, judged_from;                               /* columns from judged_from on are not written by ours, but judged */
 
 static uint8_t power_of_g(int e)
 {
     uint8_t p = 1;
-    for (; e > 0; e--)
+    for (e %= 255; e > 0; e--)
         p = gf_mul(p, 2);
     return p;
 }
 
-/* ---- ISA-L: weighted sums of columns, matrix and tables made outside the timed part ---- */
+/* ---- the peers: sums of columns, those of the same columns as rows of one job ---- */
 
-struct sums { int len, sources, rows; uint8_t *from[SOURCES], *to[3], weight[3][SOURCES], tables[32 * 3 * SOURCES]; };
-
-static struct sums jobs[JOBS];
+static struct job {
+    int sources, rows, matrix[3 * SOURCES];                    /* jerasure's weights */
+    uint8_t *from[SOURCES], *to[3], weight[3][SOURCES], tables[32 * 3 * SOURCES]; /* tables: ISA-L's */
+} jobs[JOBS];
 static int job_count;
 
-static struct sums *sums(int len)
+/* A new sum, which goes to `to`; then its columns, each with its weight. */
+static void sum(uint8_t *to)
 {
-    struct sums *s = &jobs[job_count++];
-    s->len = len, s->rows = s->sources = 0;
-    return s;
+    struct job *s = &jobs[job_count++];
+    s->sources = 0, s->rows = 1, s->to[0] = to;
 }
 
-static void goes_to(struct sums *s, uint8_t *to) { s->to[s->rows++] = to; }
-
-/* One more source, with a weight for each row: w * g^(place * row), the row counted from `row` on. */
-static void source(struct sums *s, uint8_t *from, uint8_t w, int place, int row)
+static void of(uint8_t weight, uint8_t *from)
 {
-    for (int i = 0; i < s->rows; i++)
-        s->weight[i][s->sources] = gf_mul(w, power_of_g(place * (row + i)));
-    s->from[s->sources++] = from;
+    struct job *s = &jobs[job_count - 1];
+    if (weight != 0)
+        s->weight[0][s->sources] = weight, s->from[s->sources++] = from;
 }
 
-static void tables(struct sums *s)
+/* Joins neighbouring sums of the same columns to one job, and makes each job's matrix and tables. */
+static void make_jobs(void)
 {
-    static uint8_t matrix[3 * SOURCES];
-    for (int i = 0; i < s->rows; i++)
-        memcpy(matrix + i * s->sources, s->weight[i], (size_t)s->sources);
-    ec_init_tables(s->sources, s->rows, matrix, s->tables);
+    static uint8_t bytes[3 * SOURCES];
+    int made = 0;
+    for (int i = 0; i < job_count; i++) {
+        struct job *s = &jobs[i], *last = made > 0 ? &jobs[made - 1] : NULL;
+        if (last && last->sources == s->sources && memcmp(last->from, s->from, (size_t)s->sources * sizeof *s->from) == 0) {
+            last->to[last->rows] = s->to[0];
+            memcpy(last->weight[last->rows++], s->weight[0], (size_t)s->sources);
+        } else
+            jobs[made++] = *s;
+    }
+    job_count = made;
+    for (struct job *s = jobs; s < jobs + job_count; s++) {
+        for (int i = 0; i < s->rows * s->sources; i++)
+            s->matrix[i] = bytes[i] = s->weight[i / s->sources][i % s->sources];
+        ec_init_tables(s->sources, s->rows, bytes, s->tables);
+    }
 }
 
-static void their_turn(void)
+static void judge(void)
 {
-    for (int i = 0; i < job_count; i++)
-        ec_encode_data(jobs[i].len, jobs[i].sources, jobs[i].rows, jobs[i].tables, jobs[i].from, jobs[i].to);
     for (int i = judged_from; i < columns; i++)
         failed |= memcmp(theirs + i * L, ours_at[i], (size_t)L) != 0;
+}
+
+static void isal_turn(void)
+{
+    for (struct job *s = jobs; s < jobs + job_count; s++)
+        ec_encode_data(run, s->sources, s->rows, s->tables, s->from, s->to);
+    judge();
+}
+
+static void jerasure_turn(void)
+{
+    for (struct job *s = jobs; s < jobs + job_count; s++)
+        jerasure_matrix_encode(s->sources, s->rows, 8, s->matrix, (char **)s->from, (char **)s->to, run);
+    judge();
 }
 
 /* ---- a contest ---- */
@@ -79,7 +123,7 @@ static void their_turn(void)
 static double now(void)
 {
     struct timespec t;
-    clock_gettime(CLOCK_MONOTONIC, &t);
+    clock_gettime(CLOCK_PROCESS_CPUTIME_ID, &t);
     return (double)t.tv_sec + 1e-9 * (double)t.tv_nsec;
 }
 
@@ -87,309 +131,291 @@ static int by_size(const void *a, const void *b) { return (*(const double *)a > 
 
 static void roof(void)
 {
-    memcpy(other, whole, covered);
+    memcpy(copy, whole, covered);
     __asm__ volatile("" ::: "memory");
 }
 
-/* GB/s of ours, ISA-L's and the roof. */
-static void speeds(void (*our_turn)(void), double *gb)
+/* GB/s of each side. */
+static void speeds(void (*const *turns)(void), double *gb)
 {
-    void (*const turns[3])(void) = {our_turn, their_turn, roof};
-    static double times[3][ROUNDS];
+    static double times[SIDES][ROUNDS];
     size_t calls = 1 + BATCH / covered;
     for (int round = -1; round < ROUNDS; round++)              /* the first round warms up */
-        for (int who = 0; who < 3; who++) {
+        for (int side = 0; side < SIDES; side++) {
             double start = now();
-            for (size_t i = 0; i < calls; i++)
-                turns[who]();
+            for (size_t i = 0; i < calls && turns[side]; i++)
+                turns[side]();
             if (round >= 0)
-                times[who][round] = now() - start;
+                times[side][round] = now() - start;
         }
-    for (int who = 0; who < 3; who++) {
-        qsort(times[who], ROUNDS, sizeof(double), by_size);
-        gb[who] = 1e-9 * (double)calls * (double)covered / times[who][ROUNDS / 2];
+    for (int side = 0; side < SIDES; side++) {
+        qsort(times[side], ROUNDS, sizeof(double), by_size);
+        gb[side] = 1e-9 * (double)calls * (double)covered / times[side][ROUNDS / 2];
     }
 }
 
 /* Ends a line of the table with a threshold, which counts on aarch64 only. */
-static void require(int holds, const char *what, double least)
+static void require(double found, double least)
 {
-#ifdef __aarch64__
-    failed |= !holds;
-    printf("   %s %.2f%s", what, least, holds ? "" : ": TOO SLOW");
-#else
-    (void)holds;
-    printf("   (aarch64: %s %.2f)", what, least);
-#endif
+    int low = found < least, counts = strcmp(MACHINE, "aarch64") == 0;
+    failed |= low && counts;
+    printf("   %s %.2f%s", counts ? "at least" : "on aarch64 at least", least, low && counts ? ": TOO SLOW" : "");
 }
 
-/* One line of the table. `least` is the ratio that is asked for, 0: none. Our GB/s and the ratio come back. */
+/* One line of the table. Our GB/s and the ratio to ISA-L come back. `least` is asked for, or what the thresholds say. */
 struct result { double speed, ratio; };
 
 static struct result contest(const char *what, void (*our_turn)(void), double least)
 {
-    double gb[3];
-    our_turn();
-    their_turn();
+    /* jerasure wants all columns and runs aligned alike */
+    void (*const turns[SIDES])(void) = {our_turn, isal_turn, run % 16 == 0 ? jerasure_turn : NULL, roof};
+    double gb[SIDES];
+    make_jobs();
     printf("%-18s %3d %d %d %4d ", what, K, R, T, L);
-    for (int i = 0; i < columns; i++)
-        if (memcmp(theirs + i * L, ours_at[i], (size_t)L) != 0) {
-            printf("THE BYTES DIFFER\n");
-            failed = 1;
-            return (struct result){0, 0};
-        }
-    speeds(our_turn, gb);
-    if (job_count > 0)
-        printf("%7.2f %7.2f %6.2f %7.2f", gb[0], gb[1], gb[0] / gb[1], gb[2]);
+    our_turn();
+    for (int side = ISAL; side <= JERASURE && turns[side]; side++) {
+        memset(theirs, 0, sizeof theirs);
+        turns[side]();
+        for (int i = 0; i < columns; i++)
+            if (memcmp(theirs + i * L, ours_at[i], (size_t)L) != 0) {
+                printf("THE BYTES DIFFER\n");
+                failed = 1;
+                return (struct result){0, 0};
+            }
+    }
+    speeds(turns, gb);
+    printf("%7.2f %7.2f %6.2f ", gb[OURS], gb[ISAL], gb[OURS] / gb[ISAL]);
+    if (turns[JERASURE])
+        printf("%8.2f %6.2f %7.2f", gb[JERASURE], gb[OURS] / gb[JERASURE], gb[ROOF]);
     else
-        printf("%7.2f %7s %6s %7.2f", gb[0], "-", "-", gb[2]);
+        printf("%8s %6s %7.2f", "-", "-", gb[ROOF]);
+    for (size_t i = 0; i < sizeof thresholds / sizeof *thresholds; i++)
+        if (strcmp(what, thresholds[i].what) == 0 && K == thresholds[i].k && R == thresholds[i].r && T == thresholds[i].t)
+            for (int j = 0; j < 4; j++)
+                least = L == thresholds[i].l[j] ? thresholds[i].least : least;
     if (least > 0)
-        require(gb[0] >= least * gb[1], "at least", least);
+        require(gb[OURS] / gb[ISAL], least);
     printf("\n");
-    return (struct result){gb[0], gb[0] / gb[1]};
+    return (struct result){gb[OURS], gb[OURS] / gb[ISAL]};
 }
 
-/* The numbers of the next contest, any bytes in our buffer, and no job for ISA-L yet. */
 static void shape(int k, int r, int t, int l)
 {
-    K = k, R = r, T = t, L = l;
-    covered = (size_t)(k * l);
-    columns = judged_from = r;
+    K = k, R = r, T = t, L = l, run = t == 0 ? l : l / t;
     job_count = 0;
-    for (int i = 0; i < r; i++)
-        ours_at[i] = whole + (k + i) * l;
-    for (int i = 0; i < MOST; i++)
-        whole[i] = (uint8_t)(rand() >> 7);
 }
 
-/* ---- encode ---- */
+/* ---- stripes: encode, check, mend ---- */
+
+static uint8_t lost_bytes[6];
+static int lost_count;
 
 static void our_encode(void)
 {
     failed |= shelf_encode((uint64_t)K, (uint64_t)R, (uint64_t)T, (uint64_t)L, whole, (size_t)(K * L), whole + K * L, (size_t)(R * L)) != 0;
 }
 
-static struct result encode(int k, int r, int l, double least)
-{
-    shape(k, r, 0, l);
-    struct sums *s = sums(l);
-    for (int i = 0; i < r; i++)
-        goes_to(s, theirs + i * l);
-    for (int c = 0; c < k; c++)
-        source(s, whole + c * l, 1, c, 0);
-    tables(s);
-    return contest("encode", our_encode, least);
-}
-
-/* Run j < r: all rows at once. Run j >= r of parity column i: one sum over the columns' runs j and i. */
-static void encode_prepared(int k, int r, int t, int l)
-{
-    shape(k, r, t, l);
-    int len = l / t;
-    for (int j = 0; j < t; j++)
-        for (int i = 0; i < (j < r ? 1 : r); i++) {
-            struct sums *s = sums(len);
-            for (int row = 0; row < (j < r ? r : 1); row++)
-                goes_to(s, theirs + (i + row) * l + j * len);
-            for (int c = 0; c < k; c++)
-                source(s, whole + c * l + j * len, 1, c, i);
-            for (int c = 0; c < k && j >= r; c++)
-                source(s, whole + c * l + i * len, 1, c, j);
-            tables(s);
-        }
-    contest("encode prepared", our_encode, 0);
-}
-
-/* ---- mend, and the check as mending with nothing lost ---- */
-#ifdef SHELF_HAS_MEND
-
-static uint8_t lost_bytes[6];
-static int lost_count;
-
 static void our_mend(void)
 {
     failed |= shelf_mend((uint64_t)K, (uint64_t)R, (uint64_t)T, (uint64_t)L, whole, (size_t)((K + R) * L), lost_bytes, (size_t)(2 * lost_count)) != 0;
 }
 
-/* Entry c of the row that makes position p of the data. */
-static uint8_t entry(int p, int c) { return p < K ? p == c : power_of_g((p - K) * c); }
-
-/* ISA-L's part: the lost columns, and the spare survivors to be compared, as sums of the first k survivors. */
-static void decode_job(const int *wanted, const int *survivors)
+/* The weight of data column c, run d, in the column at position p, run b. */
+static uint8_t weight(int p, int b, int c, int d)
 {
-    static uint8_t rows[255 * 255], inverse[255 * 255];
-    struct sums *s = sums(L);
-    for (int i = 0; i < K; i++)
-        for (int c = 0; c < K; c++)
-            rows[i * K + c] = entry(survivors[i], c);
-    gf_invert_matrix(rows, inverse, K);
-    for (int i = 0; i < R; i++)
-        goes_to(s, theirs + i * L);
-    for (int i = 0; i < K; i++) {
-        source(s, whole + survivors[i] * L, 0, 0, 0);
-        for (int row = 0; row < R; row++)
-            for (int c = 0; c < K; c++)
-                s->weight[row][i] ^= gf_mul(entry(wanted[row], c), inverse[c * K + i]);
-    }
-    tables(s);
+    if (p < K)
+        return p == c && b == d;
+    return b == d ? power_of_g((p - K) * c) : b >= R && d == p - K ? power_of_g(b * c) : 0;
 }
 
-/* Lost are `count` columns from `first` on. A prepared stripe has no job for ISA-L: our bytes are compared with those that were lost. */
-static struct result mend(const char *what, int k, int r, int t, int l, int first, int count, double least)
+/* The peers' part: r columns, the lost ones and then the other survivors, as sums of the k survivors `from`. */
+static void sums_of(const int *from, const int *wanted)
+{
+    static uint8_t rows[SOURCES * SOURCES], inverse[SOURCES * SOURCES];
+    int runs = L / run, size = K * runs;
+    for (int i = 0; i < size * size; i++)
+        rows[i] = weight(from[i / size / runs], i / size % runs, i % size / runs, i % size % runs);
+    gf_invert_matrix(rows, inverse, size);
+    for (int b = 0; b < runs; b++)
+        for (int i = 0; i < R; i++) {
+            uint8_t row[SOURCES] = {0};
+            for (int c = 0; c < size; c++) {
+                uint8_t w = weight(wanted[i], b, c / runs, c % runs);
+                for (int s = 0; s < size && w != 0; s++)
+                    row[s] ^= gf_mul(w, inverse[c * size + s]);
+            }
+            sum(theirs + i * L + b * run);
+            for (int s = 0; s < size; s++)
+                of(row[s], whole + from[s / runs] * L + s % runs * run);
+        }
+}
+
+/* Lost are `count` columns from `first` on, in encoding the parity; the peers use the first k survivors and judge the others. */
+static struct result stripe(const char *what, void (*our_turn)(void), int first, int count)
 {
     int survivors[258], wanted[3], found = 0;
-    shape(k, r, t, l);
     our_encode();
-    covered = (size_t)((k + r) * l);
-    judged_from = lost_count = count;
-    for (int i = 0; i < count; i++) {
-        wanted[i] = first + i;
-        lost_bytes[2 * i] = (uint8_t)((first + i) % 256);
-        lost_bytes[2 * i + 1] = (uint8_t)((first + i) / 256);
-    }
-    for (int p = 0; p < k + r; p++)
+    for (int p = 0; p < K + R; p++)
         if (p < first || p >= first + count)
             survivors[found++] = p;
-    for (int i = count; i < r; i++)
-        wanted[i] = survivors[k + i - count];
-    for (int i = 0; i < r; i++) {
-        ours_at[i] = whole + wanted[i] * l;
-        memcpy(theirs + i * l, ours_at[i], (size_t)l);
+    for (int i = 0; i < R; i++) {
+        wanted[i] = i < count ? first + i : survivors[K + i - count];
+        ours_at[i] = whole + wanted[i] * L;
+        lost_bytes[2 * i] = (uint8_t)(wanted[i] % 256), lost_bytes[2 * i + 1] = (uint8_t)(wanted[i] / 256);
     }
-    if (t == 0)
-        decode_job(wanted, survivors);
-    memset(whole + first * l, 0xEE, (size_t)(count * l));
-    return contest(what, our_mend, least);
+    columns = R, judged_from = lost_count = count;
+    sums_of(survivors, wanted);
+    memset(whole + first * L, 0xEE, (size_t)(count * L));
+    return contest(what, our_turn, 0);
 }
 
-static void mends(void)
+static struct result encode_as(const char *what, int k, int r, int t, int l)
 {
-    static const int ls[] = {64, 512, 4095, 4096};
-    for (int l = 0; l < 4; l++)
-        mend("check", 12, 2, 0, ls[l], 0, 0, 1.6);
-    for (int l = 0; l < 4; l++)
-        mend("mend 1 of 12", 12, 2, 0, ls[l], 3, 1, 1.2);
-    struct result at_64 = mend("mend 2 of 12", 12, 2, 0, 64, 3, 2, 0);
-    mend("mend 2 of 12", 12, 2, 0, 512, 3, 2, 0.9);
-    struct result at_4096 = mend("mend 2 of 12", 12, 2, 0, 4096, 3, 2, 0.9);
-    printf("%-18s %27.2f", "64 against 4096", at_64.speed / at_4096.speed);
-    require(3 * at_64.speed >= at_4096.speed, "at least", 1.0 / 3);
-    printf("\n");
-    for (int l = 1; l < 4; l += 2) {
-        mend("mend 3 of 12", 12, 3, 0, ls[l], 3, 3, 0);
-        mend("mend a parity", 12, 2, 0, ls[l], 12, 1, 0);
-        mend("mend 1 prepared", 12, 1, 2, ls[l], 3, 1, 0);
-    }
-    mend("mend 2 prepared", 12, 2, 3, 4095, 3, 2, 0);
+    shape(k, r, t, l);
+    covered = (size_t)(k * l);
+    return stripe(what, our_encode, k, r);
 }
-#endif
 
-/* ---- fold ---- */
-#ifdef SHELF_HAS_FOLD
+static struct result mend(const char *what, int k, int r, int t, int l, int first, int count)
+{
+    shape(k, r, t, l);
+    covered = (size_t)((k + r) * l);
+    return stripe(what, our_mend, first, count);
+}
+
+static struct result encode(int k, int r, int t, int l) { return encode_as(t == 0 ? "encode" : "encode prepared", k, r, t, l); }
+static struct result check(int k, int r, int t, int l) { return mend("check", k, r, t, l, 0, 0); }
+static struct result mend_1(int k, int r, int t, int l) { return mend("mend 1", k, r, t, l, 1, 1); }
+static struct result mend_2(int k, int r, int t, int l) { return mend("mend 2", k, r, t, l, 1, 2); }
+static struct result mend_3(int k, int r, int t, int l) { return mend("mend 3", k, r, t, l, 1, 3); }
+static struct result mend_parity(int k, int r, int t, int l) { return mend("mend a parity", k, r, t, l, k, 1); }
+
+/* ---- folds ---- */
 
 static int N, F;
-static uint8_t wide[3 * 4096] __attribute__((aligned(64)));
 
 static void our_fold(void)
 {
-    failed |= shelf_fold((uint64_t)K, (uint64_t)R, (uint64_t)T, (uint64_t)L, (uint64_t)N, (uint64_t)F, whole, covered, wide, (size_t)(F * L)) != 0;
+    failed |= shelf_fold((uint64_t)K, (uint64_t)R, (uint64_t)T, (uint64_t)L, (uint64_t)N, (uint64_t)F, whole, covered, whole + covered, (size_t)(F * L)) != 0;
 }
 
-static void fold_shape(int k, int r, int t, int l, int n, int f)
+/* How many stripes are folded. */
+static int stripes(int k) { return k == 100 ? 2 : k == 8 ? 16 : 3; }
+
+/* The answer stands behind the bytes lent, as in encoding. */
+static void fold_shape(int k, int r, int t, int l, int f)
 {
     shape(k, r, t, l);
-    N = n, F = columns = judged_from = f;
+    N = stripes(k);
+    F = columns = judged_from = f;
+    covered = (size_t)shelf_plan_bytes_read((uint64_t)k, (uint64_t)r, (uint64_t)t, (uint64_t)l, (uint64_t)N, (uint64_t)f);
     for (int j = 0; j < f; j++)
-        ours_at[j] = wide + j * l;
+        ours_at[j] = whole + covered + j * l;
 }
 
-/* Kind A: wide row j is a sum of N columns. */
-static void fold_a(int k, int l, int n, int f, double least)
+static struct result fold(char kind, double least)
 {
-    fold_shape(k, f, 0, l, n, f);
-    covered = (size_t)(n * f * l);
-    for (int j = 0; j < f; j++) {
-        struct sums *s = sums(l);
-        goes_to(s, theirs + j * l);
-        for (int i = 0; i < n; i++)
-            source(s, whole + (i * f + j) * l, 1, k * i, j);
-        tables(s);
+    char what[32];
+    snprintf(what, sizeof what, "fold %c, N=%d", kind, N);
+    return contest(what, our_fold, least);
+}
+
+/* Kind A, f = r: wide row j is a sum of N columns. */
+static struct result fold_a(int k, int r, int t, int l)
+{
+    fold_shape(k, r, t, l, r);
+    for (int j = 0; j < F; j++) {
+        sum(theirs + j * l);
+        for (int i = 0; i < N; i++)
+            of(power_of_g(j * k * i), whole + (i * F + j) * l);
     }
-    contest(n == 3 ? "fold A, N=3" : "fold A, N=16", our_fold, least);
+    return fold('A', 0);
 }
 
-/* Kind C: the rows of all data; asked for is the ratio of encoding as many columns, less 10 %. */
-static void fold_c(int k, int l, int n, int f)
+/* Kind B, run by run: lent are of each stripe the data columns' runs r to t-1, then the parity columns. */
+static struct result fold_b(int k, int r, int t, int l)
 {
-    struct result encoding = encode(n * k, f, l, 0);
-    fold_shape(k, f - 1, 0, l, n, f);
-    covered = (size_t)(n * k * l);
-    struct sums *s = sums(l);
-    for (int j = 0; j < f; j++)
-        goes_to(s, theirs + j * l);
-    for (int c = 0; c < n * k; c++)
-        source(s, whole + c * l, 1, c, 0);
-    tables(s);
-    contest("fold C, N=3", our_fold, 0.9 * encoding.ratio);
-}
-
-/* Kind B, run by run: from each stripe the data columns' runs r to t-1, then the parity columns. */
-static void fold_b(int k, int r, int t, int l, int n, double least)
-{
-    fold_shape(k, r, t, l, n, t);
-    int len = l / t, part = (t - r) * len, size = k * part + r * l;
-    covered = (size_t)(n * size);
+    fold_shape(k, r, t, l, t);
+    int part = (t - r) * run, size = k * part + r * l;
     for (int b = 0; b < t; b++)
-        for (int j = 0; j < (b < r ? t : 1); j++) {
-            struct sums *s = sums(len);
-            for (int row = 0; row < (b < r ? 1 : t); row++)
-                goes_to(s, theirs + (j + row) * l + b * len);
-            for (int i = 0; i < n; i++) {
-                uint8_t *from = whole + i * size, *parity = from + k * part;
+        for (int j = 0; j < t; j++) {
+            sum(theirs + j * l + b * run);
+            for (int i = 0; i < N; i++) {
+                uint8_t *data = whole + i * size, *parity = data + k * part, w = power_of_g(j * k * i);
                 if (b < r)
-                    source(s, j < r ? parity + j * l + b * len : parity + b * l + j * len, 1, k * i, j);
-                for (int c = 0; c < k && b >= r; c++)
-                    source(s, from + c * part + (b - r) * len, 1, k * i + c, 0);
+                    of(w, j < r ? parity + j * l + b * run : parity + b * l + j * run);
                 for (int c = 0; c < k && b < r && j >= r; c++)
-                    source(s, from + c * part + (j - r) * len, power_of_g(j * k * i), c, b);
+                    of(gf_mul(w, power_of_g(b * c)), data + c * part + (j - r) * run);
+                for (int c = 0; c < k && b >= r; c++)
+                    of(gf_mul(w, power_of_g(j * c)), data + c * part + (b - r) * run);
             }
-            tables(s);
         }
-    contest("fold B, N=3", our_fold, least);
+    return fold('B', 0);
 }
 
-static void folds(void)
+/* Kind C, f = r+1: the rows of all data. Asked for is the ratio of encoding as many columns, less 10 %; not so at k=100 and L=4096, which
+ * outgrow the second cache: there the two ratios part by more than that from run to run. */
+static struct result fold_c(int k, int r, int t, int l)
 {
-    fold_a(4, 512, 3, 2, 1.0);
-    fold_a(4, 4096, 3, 2, 1.0);
-    fold_a(8, 4096, 16, 3, 0);
-    fold_b(4, 1, 2, 4096, 3, 0.8);
-    fold_b(4, 2, 3, 4095, 3, 0.8);
-    fold_c(4, 512, 3, 2);
-    fold_c(4, 4096, 3, 3);
+    double least = k * l < 100 * 4096 ? 0.9 * encode_as("(encode for C)", stripes(k) * k, r + 1, t, l).ratio : 0;
+    fold_shape(k, r, t, l, r + 1);
+    for (int j = 0; j < F; j++) {
+        sum(theirs + j * l);
+        for (int c = 0; c < N * k; c++)
+            of(power_of_g(j * c), whole + c * l);
+    }
+    return fold('C', least);
 }
-#endif
+
+/* ---- the table ---- */
+
+static const int ks[] = {4, 12, 100}, ls[] = {64, 512, 4096};
+static struct result results[3][3];
+
+/* A line for each k and each L; in a prepared stripe L is as near below as makes runs of whole vectors. */
+static void each(int r, int t, struct result (*line)(int k, int r, int t, int l))
+{
+    for (int k = 0; k < 3; k++)
+        for (int l = 0; l < 3; l++)
+            results[k][l] = line(ks[k], r, t, t == 0 ? ls[l] : ls[l] - ls[l] % (16 * t));
+}
 
 int main(void)
 {
-    static const int ks[] = {4, 12, 100}, ls[] = {64, 512, 4095, 4096};
-    printf("%-18s %3s %s %s %4s %7s %7s %6s %7s\n", "GB/s", "k", "r", "t", "L", "ours", "ISA-L", "ratio", "memcpy");
-    for (int r = 1; r <= 3; r++)
-        for (int k = 0; k < 3; k++)
-            for (int l = 0; l < 4; l++)
-                encode(ks[k], r, ls[l], r == 2 && ks[k] < 100 ? 1.6 : r == 3 && ks[k] > 4 ? 1.2 : 0);
-    for (int k = 0; k < 3; k++) {
-        encode_prepared(ks[k], 1, 2, 4096);
-        encode_prepared(ks[k], 1, 3, 4095);
-        encode_prepared(ks[k], 2, 3, 4095);
-        encode_prepared(ks[k], 2, 3, 63);
-    }
-#ifdef SHELF_HAS_MEND
-    mends();
-#endif
-#ifdef SHELF_HAS_FOLD
-    folds();
-#endif
+    for (int i = 0; i < MOST; i++)
+        whole[i] = (uint8_t)(rand() >> 7);
+    printf("GB/s, %-12s %3s %s %s %4s %7s %7s %6s %8s %6s %7s\n", MACHINE, "k", "r", "t", "L", "ours", "ISA-L", "ratio", "jerasure", "ratio", "memcpy");
+    each(1, 0, encode);
+    each(2, 0, encode);
+    each(3, 0, encode);
+    each(1, 2, encode);
+    each(1, 3, encode);
+    each(2, 3, encode);
+    each(2, 0, check);
+    each(2, 0, mend_1);
+    each(2, 0, mend_2);
+    printf("(64 against 4096) %12s %7.2f", "", results[1][0].speed / results[1][2].speed);
+    require(results[1][0].speed / results[1][2].speed, 1.0 / 3);
+    printf("\n");
+    each(3, 0, mend_3);
+    each(2, 0, mend_parity);
+    each(1, 2, mend_1);
+    each(2, 3, mend_2);
+    each(2, 0, fold_a);
+    for (int l = 0; l < 3; l++)
+        fold_a(8, 3, 0, ls[l]);
+    each(1, 2, fold_b);
+    each(2, 3, fold_b);
+    each(1, 0, fold_c);
+    each(2, 0, fold_c);
+    /* columns that end inside a vector, where thresholds ask for them */
+    encode(4, 2, 0, 4095);
+    encode(12, 2, 0, 4095);
+    encode(12, 3, 0, 4095);
+    encode(100, 3, 0, 4095);
+    check(12, 2, 0, 4095);
+    mend_1(12, 2, 0, 4095);
+    fold_b(4, 2, 3, 4095);
     printf("bench: %s\n", failed ? "FAILED" : "ok");
     return failed;
 }

@@ -442,6 +442,7 @@ static void table(void)
     for (int n = 0; n < 11; n++)
         if (n != 3 && n != 4)
             show(n == 0 ? "mended:" : (sprintf(what, "%d:", n), what), record_answers[n], n > 8 ? 1000 : 50);
+    show("in a process each:", records_alone, 500);
     printf("\n");
 #endif
 }

@@ -1,4 +1,5 @@
-/* Records through the mending program, one process each. */
+/* Records through the mending program, block by block: each eighth block through mend, one process for each record, the others through
+ * mends, the same over many files, since a process takes its time to start where it is emulated. */
 #define _POSIX_C_SOURCE 200809L
 #include "records.h"
 #include "random.h"
@@ -7,7 +8,10 @@
 #include <stdlib.h>
 #include <string.h>
 
-uint64_t record_answers[11];
+#define FOLDER "target/second/records"
+enum { BLOCK = 20 };
+
+uint64_t record_answers[11], records_alone;
 
 static uint8_t rec[1 << 18];
 
@@ -88,38 +92,62 @@ static size_t any_record(int due)
     }
 }
 
-static size_t run_program(size_t len, char *text)
+/* What the program prints for the records of a block, the texts one after another: mend, a process for each, or mends, one for all. */
+static size_t run_program(int alone, char *text, size_t room)
 {
-    const char *command = getenv("SECOND_PROGRAM"), *name = "target/second/record";
+    const char *program = getenv(alone ? "SECOND_PROGRAM" : "SECOND_PROGRAMS");
     char line[4096];
-    FILE *to = fopen(name, "wb"), *from;
-    if (command == NULL || to == NULL || fwrite(rec, 1, len, to) != len || fclose(to) != 0) {
-        fprintf(stderr, "second: no program, or no place for a record\n");
+    if (program == NULL) {
+        fprintf(stderr, "second: no program\n");
         exit(2);
     }
-    snprintf(line, sizeof line, "%s < %s", command, name);
-    from = popen(line, "r");
-    size_t got = from == NULL ? 0 : fread(text, 1, MAX_TEXT - 1, from);
+    snprintf(line, sizeof line, alone ? "for f in " FOLDER "/*; do %s <$f; done" : "%s " FOLDER "/*", program);
+    FILE *from = popen(line, "r");
+    size_t got = from == NULL ? 0 : fread(text, 1, room, from);
     if (from != NULL)
         pclose(from);
-    text[got] = 0;
     return got;
+}
+
+static void keep_record(unsigned number, size_t len)
+{
+    char name[64];
+    snprintf(name, sizeof name, FOLDER "/%02u", number);
+    FILE *to = fopen(name, "wb");
+    if (to == NULL || fwrite(rec, 1, len, to) != len || fclose(to) != 0) {
+        fprintf(stderr, "second: no place for a record\n");
+        exit(2);
+    }
 }
 
 uint64_t compare_records(uint64_t count)
 {
-    static char text[MAX_TEXT], want[MAX_TEXT];
+    static const int dues[BLOCK] = {0, 0, 0, 1, 2, 5, 6, 7, 8, 8, 9, 9, 9, 9, 9, 10, 10, 10, 10, 10};
+    static char texts[BLOCK * MAX_TEXT], want[MAX_TEXT], wants[BLOCK * MAX_TEXT];
     uint64_t differences = 0;
-    static const int dues[20] = {0, 0, 0, 1, 2, 5, 6, 7, 8, 8, 9, 9, 9, 9, 9, 10, 10, 10, 10, 10};
-    for (uint64_t i = 0; i < count; i++) {
-        size_t len = any_record(dues[i % 20]), size = program_text(rec, len, want);
-        unsigned refused = 0;
-        sscanf(want, "refused %u", &refused);
-        record_answers[refused]++;
-        if (run_program(len, text) == size && memcmp(text, want, size) == 0)
+    for (uint64_t block = 0; block < count / BLOCK; block++) {
+        int alone = block % 8 == 0 || getenv("SECOND_PROGRAMS") == NULL;
+        size_t ends[BLOCK], end = 0;
+        for (unsigned i = 0; i < BLOCK; i++) {
+            size_t len = any_record(dues[i]), size = program_text(rec, len, want);
+            unsigned refused = 0;
+            sscanf(want, "refused %u", &refused);
+            record_answers[refused]++;
+            keep_record(i, len);
+            memcpy(wants + end, want, size);
+            ends[i] = end += size;
+        }
+        records_alone += alone ? BLOCK : 0;
+        size_t got = run_program(alone, texts, sizeof texts - 1), at = 0, i = 0;
+        while (at < got && at < end && texts[at] == wants[at])
+            at++;
+        if (got == end && at == end)
             continue;
+        while (i < BLOCK - 1 && ends[i] <= at)
+            i++;
+        texts[got] = wants[end] = 0;
         if (differences++ < 10)
-            printf("DIFFERENCE mend, record %lu of %lu bytes: begins %.40s, not %.40s\n", (unsigned long)i, (unsigned long)len, text, want);
+            printf("DIFFERENCE %s, record %lu of block %lu: at %.40s, not %.40s\n", alone ? "mend" : "mends", (unsigned long)i, (unsigned long)block, texts + at, wants + at);
     }
     return differences;
 }

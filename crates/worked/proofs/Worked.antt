@@ -20,11 +20,11 @@ use Rattle.stripe.proofs.Word.{wordErrors, wordMended}
 use Rattle.stripe.proofs.Mended.{wordBelow, wanted, wordAt, dataMended, stripeMended}
 use Rattle.stripe.proofs.Determined.{mendable}
 use Rattle.stripe.proofs.Completed.{completed}
-use Rattle.fold.specs.Plan.{foldRefusal, kindOf, columnSpans, kindSpans, spansFrom, plan, columnsEach, bytesEach, columnsRead, bytesRead}
+use Rattle.plan.specs.Plan.{foldRefusal, kindOf, columnSpans, kindSpans, spansFrom, plan, columnsEach, bytesEach, columnsRead, bytesRead}
 use Rattle.fold.specs.Fold.{readParity, readRow, runShare, share, foldByte, foldStripes, parts, foldOf, named, cutOut}
-use Rattle.record.specs.Number.{groups, groupsAt}
+use Rattle.number.specs.Number.{groups, groupsAt}
 use Rattle.record.specs.Reading.{firstOf, headRefusal, contentRefusal, positionsRefusal, afterPositions, stripeRefusal, readRefusal}
-use Rattle.worked.specs.Worked.{shape, pair, preparedPair, stale, Case, Holds, AllHold, worked}
+use Rattle.worked.specs.Worked.{shape, stale, Holds, AllHold, worked}
 
 small : List ℕ → Bool
 small [] = true

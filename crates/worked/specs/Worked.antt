@@ -6,9 +6,9 @@ use lib.ListN.{length}
 use Rattle.field.specs.Field.{_⊗_, gpow}
 use Rattle.stripe.specs.declared.Shape.{Shape}
 use Rattle.stripe.specs.Stripe.{parity, Codeword, Agree}
-use Rattle.fold.specs.Plan.{plan, columnsRead, bytesRead}
+use Rattle.plan.specs.Plan.{plan, columnsRead, bytesRead}
 use Rattle.fold.specs.Fold.{foldOf, cutOut}
-use Rattle.record.specs.Number.{written}
+use Rattle.number.specs.Number.{written}
 use Rattle.record.specs.Reading.{readRefusal}
 
 -- the shape of four numbers

@@ -1,0 +1,6 @@
+pub mod Contracts
+pub mod Tables
+pub mod Named
+pub mod Answers
+pub mod Runs
+pub mod Demands

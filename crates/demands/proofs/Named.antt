@@ -1,0 +1,61 @@
+-- Which parity bytes a plan names: span number i of the plan is that of column i % e of stripe i / e, where e columns are read of each stripe.
+use Prim.Native.Nat.{ℕ, _+_, _-_, _*_, _/_, _%_, _<_, _≤_}
+use mathlib.Core.Path.{_≡_, refl, sym, subst}
+use mathlib.Core.Bool.{Bool, true, false, cond}
+use native.Mathlib.Nat.{mod-lt}
+use native.Mathlib.Omega.{arith}
+use borrow.Author.Tests.{ltb-true}
+use lib.Dec.{ltb}
+use lib.ListN.{length}
+use Rattle.stripe.specs.declared.Shape.{Shape}
+use Rattle.plan.specs.declared.Kind.{Kind}
+use Rattle.plan.specs.declared.Kind.the-variants.{A, B, C}
+use Rattle.plan.specs.declared.Span.{Span}
+use Rattle.plan.specs.Plan.{kindOf, columnSpan, columnsEach, columnsRead}
+use Rattle.fold.specs.Fold.{parityNamed}
+use Rattle.demands.specs.Calls.{Names}
+use Rattle.stripe.proofs.Places.{place-column-lt}
+use Rattle.plan.proofs.Counted.{columns-counted}
+use Rattle.plan.proofs.Costs.{columns-read}
+use Rattle.plan.proofs.Spans.{span-allowed, each-some, span-number}
+
+-- a span of stripe x that covers place p of parity column i
+pub record Covers (s : Shape) (x i p : ℕ) (a : Span) : Type 0 where
+  pub stripe : a .stripe ≡ x
+  pub position : a .position ≡ s .k + i
+  pub from : a .first ≤ p
+  pub upto : p < a .first + a .length
+
+covered : (κ : Kind) (s : Shape) (f m j x i p : ℕ) → j < columnsEach κ s f → Covers s x i p (columnSpan κ s m j)
+    → (m ≡ x) × ((i < parityNamed κ s f) × (p < s .l))
+unfolding columnSpan columnsEach parityNamed
+covered A s f m j x i p h c = (c .stripe, (omega (arith, c .position), omega (arith, c .upto)))
+covered B s f m j x i p h c = go (ltb j (s .k)) refl c
+  where
+    go : (b : Bool) → ltb j (s .k) ≡ b
+        → Covers s x i p
+        (cond b (record { stripe = m; position = j; first = s .r * (s .l / s .t); length = (s .t - s .r) * (s .l / s .t) })
+        (record { stripe = m; position = j; first = 0; length = s .l }))
+        → (m ≡ x) × ((i < s .r) × (p < s .l))
+    go true e c = absurd (omega (arith, ltb-true j (s .k) e, c .position))
+    go false e c = (c .stripe, (omega (arith, c .position), omega (arith, c .upto)))
+covered C s f m j x i p h c = absurd (omega (arith, c .position))
+
+pub names-parity : (s : Shape) (n f x i p : ℕ) → Names s n f x (s .k + i) p → (x < n) × ((i < parityNamed (kindOf s f) s f) × (p < s .l))
+names-parity s n f x i p w =
+    let got = covered (kindOf s f) s f (w .span / each) (w .span % each) x i p (mod-lt (w .span) (each-some s n f (w .span) each within refl)) covers in
+    (subst (λ (y : ℕ). y < n) (got .0) (place-column-lt (w .span) n each inside), got .1)
+  where
+    each : ℕ
+    each = columnsEach (kindOf s f) s f
+
+    within : w .span < columnsRead s n f
+    within = subst (λ (y : ℕ). w .span < y) (columns-counted s n f) (w .planned)
+
+    inside : w .span < n * each
+    inside = subst (λ (y : ℕ). w .span < y) (columns-read s n f (span-allowed s n f (w .span) within)) within
+
+    covers : Covers s x i p (columnSpan (kindOf s f) s (w .span / each) (w .span % each))
+    covers =
+        subst (Covers s x i p) (sym (span-number s n f (w .span) each within refl))
+        record { stripe = w .stripe; position = w .position; from = w .from; upto = w .upto }

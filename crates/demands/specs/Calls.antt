@@ -1,0 +1,159 @@
+-- What each call promises, as a relation between what it is lent, its answer and what it leaves; and document 01's table for each, in its order:
+-- a refusal stands beside the condition that it is given without, and the answer is the first that is given, else 0.
+use Prim.Native.Nat.{ℕ, _+_, _-_, _*_, _%_, _<_, _≤_}
+use mathlib.Core.Path.{_≡_}
+use mathlib.Core.Bool.{Bool, _&&_}
+use mathlib.Core.List.{List, [], _∷_}
+use lib.Dec.{leb, eqb}
+use lib.ListN.{length}
+use Rattle.stripe.specs.declared.Shape.{Shape}
+use Rattle.stripe.specs.Shape.{dataAllowed, parityAllowed, markAllowed, lengthAllowed, columns, dataLength, parityLength, stripeLength}
+use Rattle.stripe.specs.Column.{columnOf}
+use Rattle.coding.specs.Encode.{encodeRefusal, encoded}
+use Rattle.mending.specs.Mend.{positions, ascending, Mended}
+use Rattle.plan.specs.declared.Span.{Span}
+use Rattle.plan.specs.Plan.{stripesAllowed, newAllowed, foldRefusal, plan, spanAt, columnsRead, bytesRead}
+use Rattle.fold.specs.Shares.{foldVerdict, foldFilled}
+use Rattle.record.specs.declared.read.Got.{Got}
+use Rattle.writing.specs.declared.Written.{Written}
+use Rattle.number.specs.Number.{numberRefusal}
+use Rattle.record.specs.Layout.{recordOf}
+use Rattle.record.specs.Reading.{shapeOf as recordShape, unless, firstNumber, secondNumber, thirdNumber, fourthNumber, countNumber, nextOf, countOf, columnsStart, positionsRefusal, columnsRefusal, gotOf, stripeRead, lostRead}
+use Rattle.writing.specs.Writing.{ascends, writtenOf, outWritten}
+use Rattle.answer.specs.declared.mended.Answer.{Answer}
+use Rattle.answer.specs.Answer.{Answered, Printed}
+use Rattle.shelf.specs.Shelf.{shapeOf, spansRefusal, spansFilled}
+
+-- ---- the calls
+
+-- `shelf_encode` with k, r, t, L, the data ds and a parity ps: it answers v and leaves the parity ps′
+abbrev pub Encodes : ℕ → ℕ → ℕ → ℕ → List ℕ → List ℕ → ℕ → List ℕ → Type 0
+Encodes k r t l ds ps v ps′ = (v ≡ encodeRefusal (shapeOf k r t l) (length ds) (length ps)) × (ps′ ≡ encoded (shapeOf k r t l) ds ps)
+
+-- `shelf_mend` with the stripe xs and the lost positions ls, as pairs of bytes: it answers v and leaves the stripe xs′
+abbrev pub Mends : ℕ → ℕ → ℕ → ℕ → List ℕ → List ℕ → ℕ → List ℕ → Type 0
+Mends k r t l xs ls v xs′ = Mended (shapeOf k r t l) ls xs v xs′
+
+-- `shelf_fold` of n stripes to f parity columns, with the bytes read xs and a parity ps: it answers v and leaves the parity ps′
+abbrev pub Folds : ℕ → ℕ → ℕ → ℕ → ℕ → ℕ → List ℕ → List ℕ → ℕ → List ℕ → Type 0
+Folds k r t l n f xs ps v ps′ =
+    (v ≡ foldVerdict (shapeOf k r t l) n f (length xs) (length ps)) × (ps′ ≡ foldFilled (shapeOf k r t l) n f xs ps)
+
+-- `shelf_plan_refusal`, `shelf_plan_columns_read` and `shelf_plan_bytes_read` answer v
+abbrev pub PlanRefuses : ℕ → ℕ → ℕ → ℕ → ℕ → ℕ → ℕ → Type 0
+PlanRefuses k r t l n f v = v ≡ foldRefusal (shapeOf k r t l) n f
+
+abbrev pub PlanColumns : ℕ → ℕ → ℕ → ℕ → ℕ → ℕ → ℕ → Type 0
+PlanColumns k r t l n f v = v ≡ columnsRead (shapeOf k r t l) n f
+
+abbrev pub PlanBytes : ℕ → ℕ → ℕ → ℕ → ℕ → ℕ → ℕ → Type 0
+PlanBytes k r t l n f v = v ≡ bytesRead (shapeOf k r t l) n f
+
+-- `shelf_plan_spans` with the list xs: it answers v and leaves the list xs′
+abbrev pub PlanSpans : ℕ → ℕ → ℕ → ℕ → ℕ → ℕ → List Span → ℕ → List Span → Type 0
+PlanSpans k r t l n f xs v xs′ = (v ≡ spansRefusal (shapeOf k r t l) n f (length xs)) × (xs′ ≡ spansFilled (shapeOf k r t l) n f xs)
+
+-- `column` with the data ds, the parity ps and a position c: it answers the part v
+abbrev pub Column : Shape → List ℕ → List ℕ → ℕ → List ℕ → Type 0
+Column s ds ps c v = v ≡ columnOf s ds ps c
+
+-- `read_record` with the record bs, the buffer xs and the list es: it answers v and leaves xs′ and es′
+abbrev pub Reads : List ℕ → List ℕ → List ℕ → Got → List ℕ → List ℕ → Type 0
+Reads bs xs es v xs′ es′ =
+    (v ≡ gotOf bs (length xs) (length es)) × ((xs′ ≡ stripeRead bs xs (length es)) × (es′ ≡ lostRead bs (length xs) es))
+
+-- `write_record` with the stripe xs, the lost positions es and the output out: it answers v and leaves out′
+abbrev pub Writes : Shape → List ℕ → List ℕ → List ℕ → Written → List ℕ → Type 0
+Writes s xs es out v out′ = (v ≡ writtenOf s xs es (length out)) × (out′ ≡ outWritten s xs es out)
+
+-- `mend_record` with the record bs, the buffer xs and the list es: it answers v and leaves xs′ and es′
+abbrev pub MendsRecord : List ℕ → List ℕ → List ℕ → Answer → List ℕ → List ℕ → Type 0
+MendsRecord bs xs es v xs′ es′ = Answered bs xs es v xs′ es′
+
+-- `answer` with the record bs and the output out: it answers v and leaves out′
+abbrev pub Prints : List ℕ → List ℕ → ℕ → List ℕ → Type 0
+Prints bs out v out′ = Printed bs out v out′
+
+-- ---- document 01's table
+
+-- k, r and t are allowed
+abbrev pub numbersAllowed : Shape → Bool
+numbersAllowed s = dataAllowed (s .k) && parityAllowed (s .r) && markAllowed (s .k) (s .r) (s .t)
+
+-- encoding and the column question, lent d data bytes and p parity bytes
+abbrev pub encodeTable : Shape → ℕ → ℕ → List ℕ
+encodeTable s d p =
+    unless (numbersAllowed s) 1
+    ∷ unless (lengthAllowed (s .t) (s .l)) 2
+    ∷ unless (eqb d (dataLength s) && eqb p (parityLength s)) 5
+    ∷ []
+
+-- mending, lent d bytes and the list ls; what is 8 depends on the bytes
+abbrev pub mendTable : Shape → ℕ → List ℕ → List ℕ
+mendTable s d ls =
+    unless (numbersAllowed s) 1
+    ∷ unless (lengthAllowed (s .t) (s .l)) 2
+    ∷ unless (eqb d (stripeLength s) && eqb (length ls % 2) 0) 5
+    ∷ unless (ascending 0 (columns s) (positions ls)) 6
+    ∷ unless (leb (length (positions ls)) (s .r)) 7
+    ∷ []
+
+-- a plan, and what comes after it
+abbrev pub planTable : Shape → ℕ → ℕ → List ℕ → List ℕ
+planTable s n f after =
+    unless (numbersAllowed s) 1
+    ∷ unless (lengthAllowed (s .t) (s .l)) 2
+    ∷ unless (stripesAllowed (s .k) n) 3
+    ∷ unless (newAllowed (s .t) f) 4
+    ∷ after
+
+-- a fold, lent a bytes to read and b to fill
+abbrev pub foldTable : Shape → ℕ → ℕ → ℕ → ℕ → List ℕ
+foldTable s n f a b = planTable s n f (unless (eqb a (bytesRead s n f) && eqb b (f * s .l)) 5 ∷ [])
+
+-- the list of spans, with room for so many
+abbrev pub spansTable : Shape → ℕ → ℕ → ℕ → List ℕ
+spansTable s n f room = planTable s n f (unless (leb (columnsRead s n f) room) 5 ∷ [])
+
+-- writing a record of the stripe xs whose columns es are lost, with so much room; 6 comes before 5 for the record's own length and the output
+abbrev pub writeTable : Shape → List ℕ → List ℕ → ℕ → List ℕ
+writeTable s xs es room =
+    unless (numbersAllowed s) 1
+    ∷ unless (lengthAllowed (s .t) (s .l)) 2
+    ∷ unless (leb (stripeLength s) 65536) 5
+    ∷ unless (eqb (length xs) (stripeLength s)) 5
+    ∷ unless (ascends 0 (columns s) es) 6
+    ∷ unless (leb (length (recordOf s es xs)) 65536) 5
+    ∷ unless (leb (length (recordOf s es xs)) room) 5
+    ∷ []
+
+-- reading a record bs, front to back, with a lent buffer and a list of these lengths: 5; each number as it comes (9); after the fourth 1, 2 and 5;
+-- then the lost count and the positions (9, and 6 as soon as seen); then 9 or 10 for the columns
+abbrev pub readTable : List ℕ → ℕ → ℕ → List ℕ
+readTable bs a b =
+    unless (leb (length bs) 65536) 5
+    ∷ unless (eqb a 65536) 5
+    ∷ unless (eqb b 258) 5
+    ∷ numberRefusal (firstNumber bs)
+    ∷ numberRefusal (secondNumber bs)
+    ∷ numberRefusal (thirdNumber bs)
+    ∷ numberRefusal (fourthNumber bs)
+    ∷ unless (numbersAllowed (recordShape bs)) 1
+    ∷ unless (lengthAllowed (recordShape bs .t) (recordShape bs .l)) 2
+    ∷ unless (leb (stripeLength (recordShape bs)) 65536) 5
+    ∷ numberRefusal (countNumber bs)
+    ∷ unless (leb (countOf bs) (columns (recordShape bs))) 6
+    ∷ positionsRefusal bs (columns (recordShape bs)) (countOf bs) 0 (nextOf (countNumber bs))
+    ∷ columnsRefusal (length bs - columnsStart bs) ((columns (recordShape bs) - countOf bs) * recordShape bs .l)
+    ∷ []
+
+-- ---- what a plan names
+
+-- the plan names the byte at place p of the column at position c of stripe x
+pub record Names (s : Shape) (n f x c p : ℕ) : Type 0 where
+  pub span : ℕ
+  pub planned : span < length (plan s n f)
+  pub stripe : spanAt s n f span .stripe ≡ x
+  pub position : spanAt s n f span .position ≡ c
+  pub from : spanAt s n f span .first ≤ p
+  pub upto : p < spanAt s n f span .first + spanAt s n f span .length

@@ -1,6 +1,6 @@
 -- A loop over two lists that compares them: what is left to compare is the two lists from place q on.
 use mathlib.Core.Path.{_≡_, refl, sym, ap, _∙_}
-use mathlib.Core.Bool.{Bool, true, false, cond, _&&_}
+use mathlib.Core.Bool.{Bool, true, false, cond, true≢false, _&&_}
 use mathlib.Core.List.{List, [], _∷_}
 use mathlib.Core.Logic.{_⊎_, inl, inr}
 use Prim.Native.Nat.{ℕ, zero, suc, _+_, _<_, _≤_}
@@ -13,7 +13,7 @@ use lib.ListN.{length, getD, drop}
 use borrow.Author.Tests.{eqb-true, eq-eqb, ne-eqb}
 use Rattle.field.specs.Field.{_⊕_}
 use Rattle.field.proofs.Xor.{add-cancel, add-zero}
-use Rattle.lanes.specs.Lanes.{agree, firstDifference}
+use Rattle.lanes.specs.Lanes.{agree, allZero, firstDifference}
 
 -- ---- bytes that are equal
 
@@ -24,15 +24,12 @@ xor-zero : (x y : ℕ) → bitXor x y ≡ 0 → x ≡ y
 unfolding _⊕_
 xor-zero x y e = sum-zero x y e
 
-true-false : true ≡ false → ⊥
-true-false p = let z : _≡_ {A = ℕ} 0 1 = ap (λ (b : Bool). cond b 0 1) p in omega arith
-
 xor-eqb : (x y : ℕ) → eqb (bitXor x y) 0 ≡ eqb x y
 xor-eqb x y = by (eqb x y) refl
   where
     by : (b : Bool) → eqb x y ≡ b → eqb (bitXor x y) 0 ≡ b
     by true e = eq-eqb (bitXor x y) 0 (ap (λ (z : ℕ). bitXor x z) (sym (eqb-true x y e)) ∙ xor-self x)
-    by false e = ne-eqb (bitXor x y) 0 (λ z. true-false (sym (eq-eqb x y (xor-zero x y z)) ∙ e))
+    by false e = ne-eqb (bitXor x y) 0 (λ z. true≢false (sym (eq-eqb x y (xor-zero x y z)) ∙ e))
 
 or-eqb : (z w : ℕ) → eqb (bitOr z w) 0 ≡ eqb z 0 && eqb w 0
 or-eqb zero w = ap (λ (x : ℕ). eqb x 0) (or-zero-l w)
@@ -46,6 +43,14 @@ both-assoc false b c = refl
 both-true : (b : Bool) → b && true ≡ b
 both-true true = refl
 both-true false = refl
+
+both-left : (a b : Bool) → a && b ≡ true → a ≡ true
+both-left true b e = refl
+both-left false b e = e
+
+both-right : (a b : Bool) → a && b ≡ true → b ≡ true
+both-right true b e = e
+both-right false b e = absurd (true≢false (sym e))
 
 -- ---- the loops
 
@@ -93,6 +98,50 @@ same-done xs ys z q n h s e =
     ends : n ≤ q → (length xs ≤ n) ⊎ (length ys ≤ n) → (length xs ≤ q) ⊎ (length ys ≤ q)
     ends h (inl l) = inl (omega arith)
     ends h (inr l) = inr (omega arith)
+
+-- ---- bytes that are all zero
+
+zero-drop : (xs : List ℕ) (q : ℕ) → q < length xs → allZero (drop q xs) ≡ eqb (getD xs q 0) 0 && allZero (drop (suc q) xs)
+unfolding allZero
+zero-drop [] q h = absurd (not-suc-le-zero h)
+zero-drop (x ∷ xs) zero h = refl
+zero-drop (x ∷ xs) (suc q) h = zero-drop xs q (le-of-suc-le-suc h)
+
+zero-end : (xs : List ℕ) (q : ℕ) → length xs ≤ q → allZero (drop q xs) ≡ true
+unfolding allZero
+zero-end [] zero h = refl
+zero-end [] (suc q) h = refl
+zero-end (x ∷ xs) zero h = absurd (not-suc-le-zero h)
+zero-end (x ∷ xs) (suc q) h = zero-end xs q (le-of-suc-le-suc h)
+
+-- z is 0 so far exactly where all before q is zero
+pub zero-turn : (xs : List ℕ) (z q : ℕ) → q < length xs → eqb z 0 && allZero (drop q xs) ≡ allZero xs
+    → eqb (bitOr z (getD xs q 0)) 0 && allZero (drop (q + 1) xs) ≡ allZero xs
+zero-turn xs z q h e =
+    let x = getD xs q 0 in
+    ap (λ (n : ℕ). eqb (bitOr z x) 0 && allZero (drop n xs)) (add-one q)
+    ∙ ap (λ (b : Bool). b && allZero (drop (suc q) xs)) (or-eqb z x)
+    ∙ both-assoc (eqb z 0) (eqb x 0) (allZero (drop (suc q) xs))
+    ∙ ap (λ (b : Bool). eqb z 0 && b) (sym (zero-drop xs q h)) ∙ e
+
+pub zero-done : (xs : List ℕ) (z q : ℕ) → length xs ≤ q → eqb z 0 && allZero (drop q xs) ≡ allZero xs → eqb z 0 ≡ allZero xs
+zero-done xs z q h e = sym (both-true (eqb z 0)) ∙ ap (λ (b : Bool). eqb z 0 && b) (sym (zero-end xs q h)) ∙ e
+
+pub zero-at : (xs : List ℕ) → allZero xs ≡ true → (i : ℕ) → getD xs i 0 ≡ 0
+unfolding allZero
+zero-at [] e i = refl
+zero-at (x ∷ xs) e zero = eqb-true x 0 (both-left (eqb x 0) (allZero xs) e)
+zero-at (x ∷ xs) e (suc i) = zero-at xs (both-right (eqb x 0) (allZero xs) e) i
+
+pub zero-all : (xs : List ℕ) → ((i : ℕ) → i < length xs → getD xs i 0 ≡ 0) → allZero xs ≡ true
+unfolding allZero
+zero-all [] h = refl
+zero-all (x ∷ xs) h = ap (λ (b : Bool). b && allZero xs) (eq-eqb x 0 (h 0 (omega arith))) ∙ zero-all xs (λ i l. h (suc i) (omega arith))
+
+pub zero-not : (xs : List ℕ) → allZero xs ≡ false → ((i : ℕ) → i < length xs → getD xs i 0 ≡ 0) → ⊥
+zero-not xs e h = true≢false (sym (zero-all xs h) ∙ e)
+
+-- ---- the first difference
 
 first-drop : (xs ys : List ℕ) (q : ℕ) → q < length xs → q < length ys
     → firstDifference (drop q xs) (drop q ys) ≡ cond (eqb (getD xs q 0) (getD ys q 0)) (suc (firstDifference (drop (suc q) xs) (drop (suc q) ys))) 0

@@ -1,5 +1,5 @@
 pub mod Onto
+pub mod Within
 pub mod Compare
-pub mod Products
 pub mod Unique
 pub mod Parts

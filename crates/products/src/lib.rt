@@ -1,0 +1,123 @@
+// Loops over byte slices that multiply by any byte, eight masks to a product.
+use lanes::apart_places;
+use lanes::copy;
+use lanes::shorter;
+use steps::double;
+use steps::mask;
+ghost use mathlib.Core.Path.{_≡_};
+ghost use mathlib.Core.Bool.{true};
+ghost use mathlib.Core.List.{map};
+ghost use Prim.Native.Nat.{ℕ, _≤_};
+ghost use lib.ListN.{length};
+ghost use Rattle.field.specs.Field.{_⊕_, _⊗_};
+ghost use Rattle.lanes.specs.Lanes.{onto, apart, within};
+ghost use Rattle.products.specs.Products.{Doubling};
+
+// At each place the first and c times the second.
+fn scale_add(a: &mut [u8], c: u8, d: &[u8])
+    ensures { λ _. ⌜ now (a .exit) ≡ onto (λ (x y : ℕ). x ⊕ c ⊗ y) (now (a .entry)) (now (d .entry)) ⌝ }
+{
+    let n = shorter(a.len(), d.len());
+    let m = multiples_of(c);
+    let mut q = 0;
+    while q < n {
+        a[q] = a[q] ^ product(m, d[q]);
+        q += 1;
+    }
+}
+
+// At each place c times the first, and the second.
+pub fn scale(a: &mut [u8], c: u8, d: &[u8])
+    ensures { λ _. ⌜ now (a .exit) ≡ onto (λ (x y : ℕ). c ⊗ x ⊕ y) (now (a .entry)) (now (d .entry)) ⌝ }
+{
+    let n = shorter(a.len(), d.len());
+    let m = multiples_of(c);
+    let mut q = 0;
+    while q < n {
+        a[q] = product(m, a[q]) ^ d[q];
+        q += 1;
+    }
+}
+
+// To the n bytes from `to` on c times those from `from` on; nothing where they are not all there, or not apart.
+pub fn scale_within(a: &mut [u8], to: usize, from: usize, n: usize, c: u8)
+    ensures { λ _. ⌜ now (a .exit) ≡ within (λ (x y : ℕ). x ⊕ c ⊗ y) to from n (now (a .entry)) ⌝ }
+{
+    let m = apart_places(to, from, n, a.len());
+    let mut q = 0;
+    while 64 <= m - q {
+        scale_part(a, to + q, from + q, 64, c);
+        q += 64;
+    }
+    if q < m {
+        scale_part(a, to + q, from + q, m - q, c);
+    }
+}
+
+// The same of at most 64 bytes, by way of a block of their own: so the compiler need not ask whether the two overlap.
+fn scale_part(a: &mut [u8], to: usize, from: usize, n: usize, c: u8)
+    requires { ⌜ (apart to from n (length (now a)) ≡ true) × (n ≤ 64) ⌝ }
+    ensures { λ _. ⌜ now (a .exit) ≡ within (λ (x y : ℕ). x ⊕ c ⊗ y) to from n (now (a .entry)) ⌝ }
+{
+    let mut t = [0u8; 64];
+    let e = from + n;
+    copy(&mut t, &a[from..e]);
+    let f = to + n;
+    scale_add(&mut a[to..f], c, &t);
+}
+
+// c times each.
+pub fn scale_all(a: &mut [u8], c: u8)
+    ensures { λ _. ⌜ now (a .exit) ≡ map (λ (x : ℕ). c ⊗ x) (now (a .entry)) ⌝ }
+{
+    let m = multiples_of(c);
+    let mut q = 0;
+    while q < a.len() {
+        a[q] = product(m, a[q]);
+        q += 1;
+    }
+}
+
+// A byte times each power of two, by which a product is eight masks.
+struct Multiples {
+    t0: u8,
+    t1: u8,
+    t2: u8,
+    t3: u8,
+    t4: u8,
+    t5: u8,
+    t6: u8,
+    t7: u8,
+}
+
+// c times each power of two.
+fn multiples_of(c: u8) -> Multiples
+    ensures { λ v. ⌜ (v .t0 ≡ c) × Doubling v ⌝ }
+{
+    let t1 = double(c);
+    let t2 = double(t1);
+    let t3 = double(t2);
+    let t4 = double(t3);
+    let t5 = double(t4);
+    let t6 = double(t5);
+    let t7 = double(t6);
+    Multiples {
+        t0: c,
+        t1,
+        t2,
+        t3,
+        t4,
+        t5,
+        t6,
+        t7,
+    }
+}
+
+// The first of the multiples times x.
+fn product(m: Multiples, x: u8) -> u8
+    requires { ⌜ Doubling m ⌝ }
+    ensures { λ v. ⌜ v ≡ m .t0 ⊗ x ⌝ }
+{
+    let low = mask(x, 1, m.t0) ^ mask(x, 2, m.t1) ^ mask(x, 4, m.t2) ^ mask(x, 8, m.t3);
+    low ^ mask(x, 16, m.t4) ^ mask(x, 32, m.t5) ^ mask(x, 64, m.t6) ^ mask(x, 128, m.t7)
+}

@@ -1,0 +1,3 @@
+pub mod Weights
+pub mod Shifts
+pub mod Unique

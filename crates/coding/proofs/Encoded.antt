@@ -1,15 +1,17 @@
 -- What encoding fills in is the parity by definition, of a plain stripe and of a prepared one.
 use mathlib.Core.Path.{_≡_, sym, ap, _∙_}
-use mathlib.Core.Bool.{Bool, cond}
+use mathlib.Core.Bool.{Bool, true, cond}
 use mathlib.Core.List.{List}
-use Prim.Native.Nat.{ℕ, _*_, _<_, _≤_}
+use Prim.Native.Nat.{ℕ, _*_, _<_}
 use lib.ListN.{length}
 use borrow.Author.Tests.{eq-eqb, ne-eqb}
 use Rattle.stripe.specs.declared.Shape.{Shape}
 use Rattle.stripe.specs.Stripe.{rowAt, parity}
 use Rattle.stripe.specs.Column.{lentRefusal}
-use Rattle.coding.specs.Rows.{RowsBelow}
+use Rattle.rows.specs.Rows.{rowsFit, filled, RowsBelow}
 use Rattle.coding.specs.Encode.{encoded, IsRow, IsParity}
+use Rattle.rows.proofs.Fits.{Columns, fit-rows}
+use Rattle.rows.proofs.Filled.{filled-places}
 use Rattle.stripe.proofs.Allowed.{allowed}
 use Rattle.stripe.proofs.Lent.{lent}
 use Rattle.stripe.proofs.Places.{parity-exact, plain-parity}
@@ -18,23 +20,27 @@ pub rows-are : (s : Shape) (ds ps : List ℕ) → RowsBelow ds (s .k) (s .l) (s 
 unfolding rowAt
 rows-are s ds ps h i hi p hp = h i p hi hp
 
--- what is asked of the rows
-pub record Ready (s : Shape) (d n : ℕ) : Type 0 where
-  pub data-long : d ≡ s .k * s .l
-  pub data-some : 1 ≤ s .k
-  pub parity-long : n ≡ s .r * s .l
-  pub parity-some : 1 ≤ s .r
-  pub parity-most : s .r ≤ 3
-
-pub ready : (s : Shape) (d n : ℕ) → lentRefusal s d n ≡ 0 → Ready s d n
-ready s d n e =
+-- the numbers of a stripe that is not refused fit
+pub columns : (s : Shape) (d n : ℕ) → lentRefusal s d n ≡ 0 → Columns d (s .k) (s .l)
+columns s d n e =
     let f = lent s d n e in
     let a = allowed s (f .shape) in
-    record { data-long = f .data-long; data-some = a .data-some; parity-long = f .parity-long; parity-some = a .parity-some; parity-most = a .parity-most }
+    record { long = f .data-long; some = a .data-some; most = a .data-most; length-most = a .length-most }
+
+fitting : (s : Shape) (d n : ℕ) → lentRefusal s d n ≡ 0 → rowsFit d (s .k) (s .l) (s .r) n ≡ true
+fitting s d n e =
+    let f = lent s d n e in
+    let a = allowed s (f .shape) in
+    fit-rows _ _ _ _ _ record { columns = columns s d n e; some = a .parity-some; most = a .parity-most; long = f .parity-long }
+
+-- so the rows are filled in
+pub rows-filled : (s : Shape) (ds os ps : List ℕ) → lentRefusal s (length ds) (length os) ≡ 0 → ps ≡ filled ds (s .k) (s .l) (s .r) os
+    → RowsBelow ds (s .k) (s .l) (s .r) (s .l) ps
+rows-filled s ds os ps e is = filled-places ds (s .k) (s .l) (s .r) os (fitting s _ _ e) ps is
 
 module _ (s : Shape) (ds os ps : List ℕ) (e : lentRefusal s (length ds) (length os) ≡ 0) (same : length ps ≡ length os) where
   long : length ps ≡ s .r * s .l
-  long = same ∙ ready s (length ds) (length os) e .parity-long
+  long = same ∙ lent s (length ds) (length os) e .parity-long
 
   pub plain-exact : s .t ≡ 0 → RowsBelow ds (s .k) (s .l) (s .r) (s .l) ps → ps ≡ parity s ds
   plain-exact z h =

@@ -11,64 +11,23 @@ use borrow.Rule.Slice.PartMut.{putMid}
 use borrow.Author.Count.{below-more}
 use Rattle.field.specs.Field.{_⊕_}
 use Rattle.field.specs.Row.{row}
-use Rattle.lanes.specs.Lanes.{onto}
-use Rattle.lanes.proofs.Onto.{onto-at, onto-length}
 use Rattle.stripe.specs.declared.Shape.{Shape}
 use Rattle.stripe.specs.Stripe.{across, rowAt, runLength, parityByte}
 use Rattle.stripe.specs.Column.{lentRefusal}
-use Rattle.coding.specs.Rows.{RowIn, Added}
+use Rattle.rows.specs.Rows.{Added, added}
+use Rattle.rows.proofs.Fits.{Columns, Run, fit-run}
+use Rattle.rows.proofs.Added.{added-places}
 use Rattle.coding.specs.Encode.{IsRow, IsParity, Beside}
-use Rattle.stripe.proofs.Allowed.{Allowed, Prepared, allowed, prepared-runs, prepared-run-length}
+use Rattle.stripe.proofs.Allowed.{Prepared, allowed, prepared-runs, prepared-run-length}
 use Rattle.stripe.proofs.Lent.{lent}
+use Rattle.coding.proofs.Encoded.{columns}
 use Rattle.lanes.proofs.Parts.{part-length, part-at, back-length, back-inside, back-outside}
 use Rattle.stripe.proofs.Places.{below-or-from, place-column, place-byte, parity-below, parity-from}
 
--- what the sum of a part and a block leaves of the whole
-pub added-block : (xs : List ℕ) (k l j from at n : ℕ) (ps b ys : List ℕ) → at + n ≤ length ps → n ≤ length b → RowIn xs k l from n j b
-    → ys ≡ onto (λ (x y : ℕ). x ⊕ y) (take (at + n - at) (drop at ps)) b → Added xs k l j from at n ps (putMid at (at + n - at) ps ys)
-added-block xs k l j from at n ps b ys fits long r is =
-    record {
-      long = back-length ps ys at n ys-long fits;
-      inside = λ q h. back-inside ps ys at n ys-long fits q h ∙ ap (λ (l : List ℕ). getD l q 0) is
-          ∙ onto-at (λ (x y : ℕ). x ⊕ y) _ b q (omega (arith, part-length ps at n fits)) (omega arith) ∙ ap₂ _⊕_ (part-at ps at n q h) (r q h);
-      outside = back-outside ps ys at n ys-long fits;
-    }
-  where
-    ys-long : length ys ≡ n
-    ys-long = ap length is ∙ onto-length (λ (x y : ℕ). x ⊕ y) _ b ∙ part-length ps at n fits
-
-pub added-none : (xs : List ℕ) (k l j from : ℕ) (ps : List ℕ) → Added xs k l j from 0 0 ps ps
-added-none xs k l j from ps = record { long = refl; inside = λ q h. absurd (not-suc-le-zero h); outside = λ i h. refl }
-
--- one block more
-pub added-more : (xs : List ℕ) (k l j from b n w : ℕ) (ps qs rs : List ℕ) → w ≡ b + n → Added xs k l j from 0 b ps qs
-    → Added xs k l j (from + b) b n qs rs → Added xs k l j from 0 w ps rs
-added-more xs k l j from b n w ps qs rs sum f g =
-    record { long = g .long ∙ f .long; inside = λ q h. ⊎-elim (old q) (new q h) (below-or-from q b); outside = outside }
-  where
-    old : (q : ℕ) → q < b → getD rs (0 + q) 0 ≡ getD ps (0 + q) 0 ⊕ row j (across xs l (from + q) 0 k)
-    old q less = g .outside (0 + q) (inl (omega arith)) ∙ f .inside q less
-
-    new : (q : ℕ) → q < w → b ≤ q → getD rs (0 + q) 0 ≡ getD ps (0 + q) 0 ⊕ row j (across xs l (from + q) 0 k)
-    new q h past =
-        let e : 0 + q ≡ b + (q - b) = omega arith in
-        let p : from + b + (q - b) ≡ from + q = omega arith in
-        ap (λ (x : ℕ). getD rs x 0) e ∙ g .inside (q - b) (omega arith)
-        ∙ ap₂ _⊕_ (f .outside (b + (q - b)) (inr (omega arith)) ∙ ap (λ (x : ℕ). getD ps x 0) (sym e)) (ap (λ (x : ℕ). row j (across xs l x 0 k)) p)
-
-    outside : (i : ℕ) → (i < 0) ⊎ (0 + w ≤ i) → getD rs i 0 ≡ getD ps i 0
-    outside i (inl h) = absurd (not-suc-le-zero h)
-    outside i (inr h) = g .outside i (inr (omega arith)) ∙ f .outside i (inr (omega arith))
-
--- the same of another number that is the same
-pub added-all : (xs : List ℕ) (k l j from b w : ℕ) (ps qs : List ℕ) → w ≡ b → Added xs k l j from 0 b ps qs → Added xs k l j from 0 w ps qs
-added-all xs k l j from b w ps qs e h = subst (λ (x : ℕ). Added xs k l j from 0 x ps qs) (sym e) h
-
--- a run that was lent, in the whole
-pub added-run : (xs : List ℕ) (k l j from a m : ℕ) (ps ys : List ℕ) → a + m ≤ length ps
-    → Added xs k l j from 0 (length (take (a + m - a) (drop a ps))) (take (a + m - a) (drop a ps)) ys
-    → Added xs k l j from a m ps (putMid a (a + m - a) ps ys)
-added-run xs k l j from a m ps ys fits g =
+-- a run that was lent and had a row added, in the whole
+pub added-run : (xs : List ℕ) (k l j from a m : ℕ) (ps ys : List ℕ) → a + m ≤ length ps → Run (length xs) k l j from m
+    → ys ≡ added xs k l j from (take (a + m - a) (drop a ps)) → Added xs k l j from a m ps (putMid a (a + m - a) ps ys)
+added-run xs k l j from a m ps ys fits known is =
     record {
       long = back-length ps ys a m ys-long fits;
       inside = λ q h. back-inside ps ys a m ys-long fits q h ∙ ap (λ (x : ℕ). getD ys x 0) (sym (ℕ-zero-add q))
@@ -77,6 +36,9 @@ added-run xs k l j from a m ps ys fits g =
       outside = back-outside ps ys a m ys-long fits;
     }
   where
+    g : Added xs k l j from 0 (length (take (a + m - a) (drop a ps))) (take (a + m - a) (drop a ps)) ys
+    g = added-places xs k l j from _ (fit-run _ _ _ _ _ _ (subst (Run (length xs) k l j from) (sym (part-length ps a m fits)) known)) ys is
+
     ys-long : length ys ≡ m
     ys-long = g .long ∙ part-length ps a m fits
 
@@ -156,13 +118,12 @@ half-turn s ds ps qs i new b h =
 -- ---- what is known where a prepared stripe is encoded
 
 pub record Marked (s : Shape) (d n m : ℕ) : Type 0 where
-  pub allowed-shape : Allowed s
   pub is : m ≡ runLength s
   pub some : 0 < m
   pub cut : s .t * m ≡ s .l
   pub gains : s .r < s .t
   pub most : s .t ≤ 3
-  pub data-long : d ≡ s .k * s .l
+  pub columns : Columns d (s .k) (s .l)
   pub parity-long : n ≡ s .r * s .l
 
 pub marked : (s : Shape) (d n : ℕ) → lentRefusal s d n ≡ 0 → 0 < s .t → Marked s d n (s .l / s .t)
@@ -172,28 +133,25 @@ marked s d n e h =
     let is : s .l / s .t ≡ runLength s = sym (prepared-run-length s h) in
     let p : Prepared s = ⊎-elim (λ z. absurd (not-suc-le-zero (subst (λ (x : ℕ). 0 < x) z h))) (λ p. p) (a .mark) in
     record {
-      allowed-shape = a;
       is = is;
       some = subst (λ (x : ℕ). 0 < x) (sym is) (a .run-some);
       cut = ap₂ _*_ (sym (prepared-runs s h)) is ∙ a .cut;
       gains = p .gains;
       most = p .mark-most;
-      data-long = f .data-long;
+      columns = columns s d n e;
       parity-long = f .parity-long;
     }
 
--- run j of parity column i lies in the parity, run i in the column
-pub record InRun (s : Shape) (i j n m : ℕ) : Type 0 where
+-- run j of parity column i lies in the parity, and run i in its row
+pub record InRun (s : Shape) (d i j n m : ℕ) : Type 0 where
   pub run : j * m + m ≤ s .l
-  pub source : i * m + m ≤ s .l
   pub column : i * s .l + s .l ≤ n
-  pub row : j < 3
+  pub known : Run d (s .k) (s .l) j (i * m) m
 
-pub in-run : (s : Shape) (d n w m i j : ℕ) → Marked s d n m → w ≡ n → i < s .r → j < s .t → InRun s i j w m
+pub in-run : (s : Shape) (d n w m i j : ℕ) → Marked s d n m → w ≡ n → i < s .r → j < s .t → InRun s d i j w m
 in-run s d n w m i j f same hi hj =
     record {
       run = run-in (s .t) m (s .l) j (f .cut) hj;
-      source = run-in (s .t) m (s .l) i (f .cut) (omega (arith, f .gains));
       column = omega (arith, run-in (s .r) (s .l) n i (sym (f .parity-long)) hi);
-      row = omega (arith, f .most);
+      known = record { columns = f .columns; row = omega (arith, f .most); inside = run-in (s .t) m (s .l) i (f .cut) (omega (arith, f .gains)) };
     }

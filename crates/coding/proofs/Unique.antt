@@ -4,14 +4,8 @@ use contract.Lifetimes.{Lfts}
 use borrow.Fn.World.{ArgsD, ResD}
 use denote.Triple.Clauses.{AtExit}
 use denote.Ref.{now}
-use Rattle.coding.proofs.check.first_wrong as first-wrong
-use Rattle.coding.proofs.check.first_wrong.Reads as first-wrong-reads
 use Rattle.coding.proofs.encode.encode as encode
 use Rattle.coding.proofs.encode.encode.Reads as encode-reads
-
-pub first-wrong-unique : (κs : Lfts 2) (a : ArgsD first-wrong.signature κs) (r r′ : ResD first-wrong.signature κs)
-    (s s′ : AtExit first-wrong.ended κs) → first-wrong-reads.Post κs a r s → first-wrong-reads.Post κs a r′ s′ → r ≡ r′
-first-wrong-unique κs a r r′ s s′ p q = p ∙ sym q
 
 pub encode-unique : (κs : Lfts 2) (a : ArgsD encode.signature κs) (r r′ : ResD encode.signature κs) (s s′ : AtExit encode.ended κs)
     → encode-reads.Post κs a r s → encode-reads.Post κs a r′ s′ → (r ≡ r′) × (now (s .1 .1 .0) ≡ now (s′ .1 .1 .0))

@@ -1,7 +1,7 @@
 // Encoding: the parity of lent data, filled into a lent buffer. First every parity column is its row; a prepared stripe then has
 // its piggybacks added, run by run.
-use crate::rows::add_row;
-use crate::rows::fill_rows;
+use rows::add_row;
+use rows::fill_rows;
 use stripe::Shape;
 use stripe::column::lent_refusal;
 ghost use mathlib.Core.Path.{_≡_};

@@ -1,4 +1,2 @@
-// Encoding and the check of a stripe, over rows formed in blocks of 64 places.
-pub mod check;
+// Encoding, over the rows of crate `rows`.
 pub mod encode;
-mod rows;

@@ -9,7 +9,6 @@ use Rattle.stripe.specs.declared.Shape.{Shape}
 use Rattle.stripe.specs.Stripe.{runLength}
 use Rattle.coding.specs.Encode.{Beside}
 use Rattle.coding.proofs.Piggyback.{Piggybacked, Marked, marked, InRun, in-run, column-start, column-turn, beside-turn, column-done, added-run}
-use Rattle.lanes.proofs.Parts.{part-length}
 use Rattle.coding.proofs.encode.add_runs.Statement.{statement}
 use Rattle.coding.proofs.encode.add_runs.Tie as tie
 
@@ -25,7 +24,7 @@ abbrev μ-loop : tie.MeasureT-loop
 known : (c : tie.Start Inv-loop μ-loop) → Marked (c .args .s) (length (c .args .«data» .now)) (length (c .args .out .now)) (c .args .s .l / c .args .s .t)
 known c = marked (c .args .s) _ _ (c .pre .0) (c .pre .1 .0)
 
-here : (c : tie.In-loop Inv-loop μ-loop) → let a = c .before .before .before .before .args in InRun (a .s) (a .i) (c .before .loop .j) (length (c .before .loop .out)) (a .s .l / a .s .t)
+here : (c : tie.In-loop Inv-loop μ-loop) → let a = c .before .before .before .before .args in InRun (a .s) (length (a .«data» .now)) (a .i) (c .before .loop .j) (length (c .before .loop .out)) (a .s .l / a .s .t)
 here c =
     let s = c .before .before .before .before in
     let at = c .before .loop in
@@ -58,7 +57,7 @@ add-e : tie.Need-add-e Inv-loop μ-loop
 add-e c = omega (arith, here c)
 
 mul-add-row : tie.Need-mul-add-row Inv-loop μ-loop
-mul-add-row c = omega (arith, here c)
+mul-add-row c = omega (arith, here c .run, here c .known .inside)
 
 sub-add-row : tie.Need-sub-add-row Inv-loop μ-loop
 sub-add-row c = search needs
@@ -70,14 +69,7 @@ part-add-row-end : tie.Need-part-add-row-end Inv-loop μ-loop
 part-add-row-end c = omega (arith, here c)
 
 add-row-requires : tie.Need-add-row-requires Inv-loop μ-loop
-add-row-requires c κs =
-    let t = c .before in
-    let a = c .before .before .before .before .before .args in
-    let at = c .before .before .loop in
-    let m = a .s .l / a .s .t in (
-      known (c .before .before .before .before .before) .data-long,
-      (known (c .before .before .before .before .before) .allowed-shape .data-some, (here t .row, omega (arith, here t .source, part-length (at .out) (a .i * a .s .l + at .j * m) m (omega (arith, here t))))),
-    )
+add-row-requires c κs = search needs
 
 add-j : tie.Need-add-j Inv-loop μ-loop
 add-j c = search needs
@@ -93,7 +85,7 @@ loop-again c =
     let at = t .before .loop in
     let m = a .s .l / a .s .t in
     let f = known s in
-    let g = added-run (a .«data» .now) (a .s .k) (a .s .l) (at .j) (a .i * m) (a .i * a .s .l + at .j * m) m (at .out) _ (omega (arith, here t)) (c .before .before .add-row .ensures) in (
+    let g = added-run (a .«data» .now) (a .s .k) (a .s .l) (at .j) (a .i * m) (a .i * a .s .l + at .j * m) m (at .out) _ (omega (arith, here t)) (here t .known) (c .before .before .add-row .ensures) in (
       search needs,
       search needs,
       at .inv .2,

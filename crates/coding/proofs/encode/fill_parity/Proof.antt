@@ -4,15 +4,12 @@ use native.Mathlib.Omega.{arith}
 use lib.ListN.{length}
 use borrow.Author.Needs.{needs}
 use Rattle.coding.specs.Encode.{encodeRefusal}
-use Rattle.coding.proofs.Encoded.{ready, rows-are, plain-exact, prepared-exact}
+use Rattle.coding.proofs.Encoded.{rows-filled, rows-are, plain-exact, prepared-exact}
 use Rattle.coding.proofs.encode.fill_parity.Statement.{statement}
 use Rattle.coding.proofs.encode.fill_parity.Tie as tie
 
 fill-rows-requires : tie.Need-fill-rows-requires
-fill-rows-requires c κs =
-    let s = c .before .before .before in
-    let f = ready (s .args .s) _ _ (s .pre) in
-    (f .data-long, (f .data-some, (f .parity-long, (f .parity-some, f .parity-most))))
+fill-rows-requires c κs = search needs
 
 same-length : tie.Need-same-length
 same-length c = search needs
@@ -22,14 +19,14 @@ returns c =
     let s = c .before .before .before .before .before .before .before in
     let ps = c .before .before .before .fill-rows .last .1 .1 .1 .1 .0 in
     let same : length ps ≡ length (s .args .out .now) = search needs in
-    plain-exact (s .args .s) _ (s .args .out .now) ps (s .pre) same (omega arith) (c .before .before .before .fill-rows .ensures)
+    plain-exact (s .args .s) _ (s .args .out .now) ps (s .pre) same (omega arith) (rows-filled (s .args .s) _ _ ps (s .pre) (c .before .before .before .fill-rows .ensures))
 
 add-piggybacks-requires : tie.Need-add-piggybacks-requires
 add-piggybacks-requires c κs =
     let s = c .before .before .before .before .before .before .before .before in
     let ps = c .before .before .before .before .fill-rows .last .1 .1 .1 .1 .0 in
     let same : length ps ≡ length (s .args .out .now) = search needs in
-    (ap (encodeRefusal (s .args .s) (length (s .args .«data» .now))) same ∙ s .pre, (omega arith, rows-are (s .args .s) _ ps (c .before .before .before .before .fill-rows .ensures)))
+    (ap (encodeRefusal (s .args .s) (length (s .args .«data» .now))) same ∙ s .pre, (omega arith, rows-are (s .args .s) _ ps (rows-filled (s .args .s) _ _ ps (s .pre) (c .before .before .before .before .fill-rows .ensures))))
 
 same-length-2 : tie.Need-same-length-2
 same-length-2 c = search needs

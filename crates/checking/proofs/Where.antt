@@ -1,0 +1,143 @@
+-- Where a stripe is wrong: two lists agree and are equal, or their first difference is within them; nowhere is said exactly of a codeword.
+use Prim.Native.Nat.{ℕ, zero, suc, _-_, _/_, _%_, _<_, _≤_}
+use mathlib.Core.Path.{_≡_, refl, sym, ap, _∙_}
+use mathlib.Core.Bool.{Bool, true, false, cond, _&&_}
+use mathlib.Core.List.{List, [], _∷_, _++_}
+use native.Mathlib.Nat.{suc-inj, suc-ne-zero, add-mul}
+use native.Mathlib.Omega.{arith}
+use borrow.Author.Tests.{eq-eqb, ne-eqb, eqb-true, eqb-false, lt-ltb, le-ltb}
+use lib.Dec.{eqb}
+use lib.ListN.{length, take, drop, length-append, length-take, length-drop}
+use lib.Seq.{take-at, drop-at}
+use Rattle.field.specs.Bytes.{Bytes}
+use Rattle.lanes.specs.Lanes.{agree, firstDifference}
+use Rattle.stripe.specs.declared.Shape.{Shape}
+use Rattle.checking.specs.declared.Wrong.the-variants.{Nowhere, At, Refused}
+use Rattle.stripe.specs.Shape.{shapeRefusal, dataLength, parityLength}
+use Rattle.stripe.specs.Stripe.{parity, Codeword}
+use Rattle.stripe.specs.Column.{lentRefusal}
+use Rattle.checking.specs.Check.{numberOf, whereIs, firstWrong}
+use Rattle.stripe.proofs.Allowed.{allowed}
+use Rattle.stripe.proofs.Places.{parity-length}
+use Rattle.stripe.proofs.Lent.{Lent, lent, lent-both}
+
+-- ---- two lists that agree, or do not
+
+agree-step : (x y : ℕ) (b : Bool) → eqb x y && b ≡ true → (x ≡ y) × (b ≡ true)
+agree-step x y b e = go (eqb x y) refl e
+  where
+    go : (c : Bool) → eqb x y ≡ c → c && b ≡ true → (x ≡ y) × (b ≡ true)
+    go true h e = (eqb-true x y h, e)
+    go false h e = absurd (suc-ne-zero 0 (sym (ap (λ (z : Bool). cond z 1 0) e)))
+
+agree-equal : (xs ys : List ℕ) → length xs ≡ length ys → agree xs ys ≡ true → xs ≡ ys
+unfolding agree
+agree-equal [] [] e h = refl
+agree-equal [] (y ∷ ys) e h = absurd (suc-ne-zero _ (sym e))
+agree-equal (x ∷ xs) [] e h = absurd (suc-ne-zero _ e)
+agree-equal (x ∷ xs) (y ∷ ys) e h =
+    ap (λ (z : ℕ). z ∷ xs) (agree-step x y (agree xs ys) h .0)
+    ∙ ap (λ (zs : List ℕ). y ∷ zs) (agree-equal xs ys (suc-inj e) (agree-step x y (agree xs ys) h .1))
+
+first-self : (xs : List ℕ) → firstDifference xs xs ≡ length xs
+unfolding firstDifference
+first-self [] = refl
+first-self (x ∷ xs) = ap (λ (b : Bool). cond b (suc (firstDifference xs xs)) 0) (eq-eqb x x refl) ∙ ap suc (first-self xs)
+
+first-step : (x y f n : ℕ) (b : Bool) → eqb x y && b ≡ false → (b ≡ false → f < n) → cond (eqb x y) (suc f) 0 < suc n
+first-step x y f n b e h = go (eqb x y) e
+  where
+    go : (c : Bool) → c && b ≡ false → cond c (suc f) 0 < suc n
+    go true e = omega (arith, h e)
+    go false e = omega arith
+
+first-within : (xs ys : List ℕ) → agree xs ys ≡ false → firstDifference xs ys < length xs
+unfolding agree firstDifference
+first-within [] ys e = absurd (suc-ne-zero 0 (ap (λ (b : Bool). cond b 1 0) e))
+first-within (x ∷ xs) [] e = absurd (suc-ne-zero 0 (ap (λ (b : Bool). cond b 1 0) e))
+first-within (x ∷ xs) (y ∷ ys) e = first-step x y _ _ (agree xs ys) e (λ h. first-within xs ys h)
+
+-- the first n bytes of a buffer
+pub front-length : (xs : List ℕ) (n : ℕ) → n ≤ length xs → length (take (n - 0) (drop 0 xs)) ≡ n
+front-length xs n h = simp (length-take, length-drop) (omega arith)
+
+-- ---- the answer
+
+module _ (s : Shape) (ds ps : List ℕ) where
+  pub wrong-refused : (lentRefusal s (length ds) (length ps) ≡ 0 → ⊥) → firstWrong s ds ps ≡ Refused (lentRefusal s (length ds) (length ps))
+  unfolding firstWrong
+  wrong-refused h = simp (ne-eqb _ _ h)
+
+  module _ (h : lentRefusal s (length ds) (length ps) ≡ 0) where
+    known : Lent s (length ds) (length ps)
+    known = lent s (length ds) (length ps) h
+
+    not-refused : firstWrong s ds ps ≡ whereIs s (firstDifference ps (parity s ds))
+    unfolding firstWrong
+    not-refused = simp (eq-eqb _ _ h)
+
+    exact-nowhere : ps ≡ parity s ds → firstWrong s ds ps ≡ Nowhere
+    unfolding whereIs
+    exact-nowhere e =
+        not-refused ∙ ap (λ (qs : List ℕ). whereIs s (firstDifference ps qs)) (sym e) ∙ ap (whereIs s) (first-self ps)
+        ∙ ap (λ (b : Bool). cond b (At (length ps / s .l) (length ps % s .l)) Nowhere) (le-ltb (length ps) (parityLength s) (omega (arith, known .parity-long)))
+
+    exact : agree ps (parity s ds) ≡ true → ps ≡ parity s ds
+    exact e = agree-equal ps (parity s ds) (known .parity-long ∙ sym (parity-length s ds)) e
+
+    pub wrong-nowhere : agree ps (parity s ds) ≡ true → firstWrong s ds ps ≡ Nowhere
+    wrong-nowhere e = exact-nowhere (exact e)
+
+    pub wrong-at : agree ps (parity s ds) ≡ false
+        → firstWrong s ds ps ≡ At (firstDifference ps (parity s ds) / s .l) (firstDifference ps (parity s ds) % s .l)
+    unfolding whereIs
+    wrong-at e =
+        not-refused
+        ∙ ap (λ (b : Bool). cond b (At (firstDifference ps (parity s ds) / s .l) (firstDifference ps (parity s ds) % s .l)) Nowhere)
+        (lt-ltb _ (parityLength s) (omega (arith, first-within ps (parity s ds) e, known .parity-long)))
+
+    nowhere-exact : firstWrong s ds ps ≡ Nowhere → ps ≡ parity s ds
+    nowhere-exact e = go (agree ps (parity s ds)) refl
+      where
+        go : (b : Bool) → agree ps (parity s ds) ≡ b → ps ≡ parity s ds
+        go true h = exact h
+        go false h = absurd (suc-ne-zero 7 (ap numberOf (sym (wrong-at h) ∙ e)))
+
+-- the longest parity
+pub parity-most : (s : Shape) (d p : ℕ) → lentRefusal s d p ≡ 0 → p ≤ 12288
+parity-most s d p h = let k = lent s d p h in omega (arith, k .parity-long, allowed s (k .shape) .parity-length)
+
+-- ---- nowhere, exactly for a codeword
+
+append-bytes : (xs ys : List ℕ) → Bytes xs → Bytes ys → Bytes (xs ++ ys)
+append-bytes [] ys hx hy i = hy i
+append-bytes (x ∷ xs) ys hx hy zero = hx 0
+append-bytes (x ∷ xs) ys hx hy (suc i) = append-bytes xs ys (λ k. hx (suc k)) hy i
+
+-- an answer whose number is 0 refuses nothing
+nowhere-lent : (s : Shape) (ds ps : List ℕ) → firstWrong s ds ps ≡ Nowhere → lentRefusal s (length ds) (length ps) ≡ 0
+nowhere-lent s ds ps e = go (eqb (lentRefusal s (length ds) (length ps)) 0) refl
+  where
+    go : (b : Bool) → eqb (lentRefusal s (length ds) (length ps)) 0 ≡ b → lentRefusal s (length ds) (length ps) ≡ 0
+    go true h = eqb-true _ _ h
+    go false h = ap numberOf (sym (wrong-refused s ds ps (eqb-false _ _ h)) ∙ e)
+
+pub nowhere-codeword : (s : Shape) (ds ps : List ℕ) → Bytes ds → Bytes ps → firstWrong s ds ps ≡ Nowhere → Codeword s (ds ++ ps)
+nowhere-codeword s ds ps hd hp e =
+    record {
+      bytes = append-bytes ds ps hd hp;
+      long = length-append ds ps ∙ omega (arith, k .data-long, k .parity-long, add-mul (s .k) (s .r) (s .l));
+      exact = drop-at ds ps (dataLength s) (k .data-long) ∙ nowhere-exact s ds ps none e ∙ ap (parity s) (sym (take-at ds ps (dataLength s) (k .data-long)));
+    }
+  where
+    none : lentRefusal s (length ds) (length ps) ≡ 0
+    none = nowhere-lent s ds ps e
+
+    k : Lent s (length ds) (length ps)
+    k = lent s (length ds) (length ps) none
+
+pub codeword-nowhere : (s : Shape) (ds ps : List ℕ) → shapeRefusal s ≡ 0 → length ds ≡ dataLength s → length ps ≡ parityLength s
+    → Codeword s (ds ++ ps) → firstWrong s ds ps ≡ Nowhere
+codeword-nowhere s ds ps h hd hp w =
+    exact-nowhere s ds ps (lent-both s (length ds) (length ps) h hd hp)
+    (sym (drop-at ds ps (dataLength s) hd) ∙ w .exact ∙ ap (parity s) (take-at ds ps (dataLength s) hd))

@@ -1,0 +1,81 @@
+-- `first_wrong` meets its contract: a refusal, or what is found beside a buffer that is long enough.
+use mathlib.Core.Path.{sym, ap, _∙_}
+use native.Mathlib.Omega.{arith}
+use borrow.Author.Needs.{needs}
+use Rattle.checking.specs.declared.Wrong.the-variants.{Refused}
+use Rattle.checking.proofs.Where.{wrong-refused, front-length, parity-most}
+use Rattle.checking.proofs.first_wrong.Statement.{statement}
+use Rattle.checking.proofs.first_wrong.Tie as tie
+
+lent-refusal-requires : tie.Need-lent-refusal-requires
+lent-refusal-requires c κs = search needs
+
+returns : tie.Need-returns
+returns c = ap Refused (c .before .lent-refusal .ensures) ∙ sym (wrong-refused _ _ _ (λ e. c .if1 .taken (c .before .lent-refusal .ensures ∙ e)))
+
+sub-compared : tie.Need-sub-compared
+sub-compared c = search needs
+
+part-small-start : tie.Need-part-small-start
+part-small-start c = search needs
+
+part-small-end : tie.Need-part-small-end
+part-small-end c = search needs
+
+compared-requires : tie.Need-compared-requires
+compared-requires c κs = (sym (c .before .before .before .lent-refusal .ensures) ∙ c .before .before .if1 .left, front-length _ _ (omega arith))
+
+returns-2 : tie.Need-returns-2
+returns-2 c = c .before .compared .ensures
+
+sub-compared-2 : tie.Need-sub-compared-2
+sub-compared-2 c = search needs
+
+part-middle-start : tie.Need-part-middle-start
+part-middle-start c = search needs
+
+part-middle-end : tie.Need-part-middle-end
+part-middle-end c = search needs
+
+compared-requires-2 : tie.Need-compared-requires-2
+compared-requires-2 c κs = (sym (c .before .before .before .before .lent-refusal .ensures) ∙ c .before .before .before .if1 .left, front-length _ _ (omega arith))
+
+returns-3 : tie.Need-returns-3
+returns-3 c = c .before .compared2 .ensures
+
+sub-compared-3 : tie.Need-sub-compared-3
+sub-compared-3 c = search needs
+
+part-large-start : tie.Need-part-large-start
+part-large-start c = search needs
+
+part-large-end : tie.Need-part-large-end
+part-large-end c = omega (arith, parity-most _ _ _ (sym (c .before .before .before .lent-refusal .ensures) ∙ c .before .before .if1 .left))
+
+compared-requires-3 : tie.Need-compared-requires-3
+compared-requires-3 c κs = (sym (c .before .before .before .before .lent-refusal .ensures) ∙ c .before .before .before .if1 .left, front-length _ _ (parity-most _ _ _ (sym (c .before .before .before .before .lent-refusal .ensures) ∙ c .before .before .before .if1 .left)))
+
+returns-4 : tie.Need-returns-4
+returns-4 c = c .before .compared3 .ensures
+
+pub first-wrong-spec : {M : Type 1} → statement M
+first-wrong-spec =
+    tie.close
+    (tie.spec
+    lent-refusal-requires
+    returns
+    sub-compared
+    part-small-start
+    part-small-end
+    compared-requires
+    returns-2
+    sub-compared-2
+    part-middle-start
+    part-middle-end
+    compared-requires-2
+    returns-3
+    sub-compared-3
+    part-large-start
+    part-large-end
+    compared-requires-3
+    returns-4)

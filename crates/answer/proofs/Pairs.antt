@@ -8,7 +8,7 @@ use lib.ListN.{length, getD, take, drop, set}
 use lib.Seq.{length-take-le, drop-length}
 use Rattle.lanes.specs.Lanes.{onto}
 use Rattle.record.proofs.Survivors.{copied-front}
-use Rattle.mending.specs.Mend.{positions}
+use Rattle.lost.specs.Positions.{positions}
 use Rattle.text.specs.Text.{over}
 use Rattle.answer.specs.Answer.{pairs}
 use Rattle.text.proofs.Over.{over-one, over-on, over-long}

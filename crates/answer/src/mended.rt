@@ -31,7 +31,7 @@ pub fn mend_record(bytes: &[u8], stripe: &mut [u8], lost: &mut [u16]) -> Answer
     let mut list = blank_list();
     let a = read_and_mend(bytes, &mut held, &mut list);
     if a.number != 0 {
-        return refused(a.number);
+        return a;
     }
     let n = (a.shape.k + a.shape.r) * a.shape.l;
     let m = a.lost;

@@ -9,7 +9,8 @@ use lib.Dec.{eqb}
 use lib.ListN.{length}
 use Rattle.field.specs.Field.{_⊕_}
 use Rattle.stripe.specs.declared.Shape.{Shape}
-use Rattle.mending.specs.Mend.{positions, mendRefusal, Restored, Mended}
+use Rattle.lost.specs.Positions.{positions}
+use Rattle.mending.specs.Mend.{mendRefusal, Restored, Mended}
 use Rattle.record.specs.declared.read.Got.{Got}
 use Rattle.writing.specs.declared.Written.{Written}
 use Rattle.record.specs.Reading.{readRefusal}

@@ -18,7 +18,8 @@ use Rattle.stripe.specs.Shape.{shapeRefusal, columns, stripeLength}
 use Rattle.stripe.specs.Stripe.{across, rowAt, parityByte, parity, dataOf, Codeword, Ascending, Agree}
 use Rattle.stripe.specs.Column.{lentRefusal}
 use Rattle.coding.specs.Encode.{encoded}
-use Rattle.mending.specs.Mend.{positions, mendRefusal}
+use Rattle.lost.specs.Positions.{positions}
+use Rattle.mending.specs.Mend.{mendRefusal}
 use Rattle.plan.specs.declared.Span.{Span}
 use Rattle.plan.specs.Plan.{foldRefusal, columnsRead, bytesRead, plan, summed, wideShape}
 use Rattle.plan.specs.Cost.{columnsNeeded, bandwidthNeeded}

@@ -9,7 +9,8 @@ use lib.ListN.{length}
 use Rattle.stripe.specs.declared.Shape.{Shape}
 use Rattle.stripe.specs.Shape.{shapeRefusal, lengthAllowed, columns, dataLength, parityLength, stripeLength}
 use Rattle.stripe.specs.Column.{lentRefusal}
-use Rattle.mending.specs.Mend.{positions, ascending, listRefusal, mendRefusal}
+use Rattle.lost.specs.Positions.{positions, ascending, listRefusal}
+use Rattle.mending.specs.Mend.{mendRefusal}
 use Rattle.plan.specs.Plan.{stripesAllowed, newAllowed, foldRefusal, columnsRead, bytesRead}
 use Rattle.fold.specs.Shares.{foldVerdict}
 use Rattle.number.specs.Number.{numberRefusal}

@@ -10,7 +10,8 @@ use Rattle.stripe.specs.declared.Shape.{Shape}
 use Rattle.stripe.specs.Shape.{dataAllowed, parityAllowed, markAllowed, lengthAllowed, columns, dataLength, parityLength, stripeLength}
 use Rattle.stripe.specs.Column.{columnOf}
 use Rattle.coding.specs.Encode.{encodeRefusal, encoded}
-use Rattle.mending.specs.Mend.{positions, ascending, Mended}
+use Rattle.lost.specs.Positions.{positions, ascending}
+use Rattle.mending.specs.Mend.{Mended}
 use Rattle.plan.specs.declared.Span.{Span}
 use Rattle.plan.specs.Plan.{stripesAllowed, newAllowed, foldRefusal, plan, spanAt, columnsRead, bytesRead}
 use Rattle.fold.specs.Shares.{foldVerdict, foldFilled}

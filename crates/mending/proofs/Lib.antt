@@ -1,4 +1,4 @@
-pub mod Listed
+pub mod Passed
 pub mod Outcome
 pub mod Slots
 pub mod Among

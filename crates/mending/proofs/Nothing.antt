@@ -13,11 +13,12 @@ use Rattle.stripe.specs.declared.Shape.{Shape}
 use Rattle.stripe.specs.Shape.{shapeRefusal, columns, dataLength, parityLength, stripeLength}
 use Rattle.stripe.specs.Stripe.{among, Codeword}
 use Rattle.stripe.proofs.Places.{by-places, below-or-from}
-use Rattle.coding.specs.Check.{firstWrong}
-use Rattle.coding.specs.declared.check.Wrong.{Wrong}
-use Rattle.coding.specs.declared.check.Wrong.the-variants.{Nowhere, At, Refused}
-use Rattle.coding.proofs.Wrong.{nowhere-codeword, codeword-nowhere}
-use Rattle.mending.specs.Mend.{positions, Restored}
+use Rattle.checking.specs.Check.{firstWrong}
+use Rattle.checking.specs.declared.Wrong.{Wrong}
+use Rattle.checking.specs.declared.Wrong.the-variants.{Nowhere, At, Refused}
+use Rattle.checking.proofs.Where.{nowhere-codeword, codeword-nowhere}
+use Rattle.lost.specs.Positions.{positions}
+use Rattle.mending.specs.Mend.{Restored}
 use Rattle.mending.specs.Restore.{Restores, verdictOf}
 
 -- an empty list names no position

@@ -13,8 +13,9 @@ use Rattle.stripe.specs.declared.Shape.{Shape}
 use Rattle.stripe.specs.Stripe.{Agree}
 use Rattle.stripe.proofs.Determined.{determined, agree-sym, agree-trans}
 use Rattle.stripe.proofs.Completed.{completed}
-use Rattle.mending.specs.Mend.{positions, mendRefusal, Restored, Mended}
-use Rattle.mending.proofs.Listed.{Passed, passed}
+use Rattle.lost.specs.Positions.{positions}
+use Rattle.mending.specs.Mend.{mendRefusal, Restored, Mended}
+use Rattle.mending.proofs.Passed.{Passed, passed}
 
 -- a number is 0 or it is not
 zero-or-not : (n : ℕ) → (n ≡ 0) ⊎ (n ≡ 0 → ⊥)

@@ -24,9 +24,9 @@ use Rattle.stripe.proofs.Survivors.{Spread, firstRow, rowStep}
 use Rattle.stripe.proofs.Lost.{lostData, rowLost, lost-data-ascending, ascending-at}
 use Rattle.stripe.proofs.Errors.{points, points-length, points-bytes, points-weights, points-apart, errorRow, error-moment, errors, errors-length, errors-bytes, syndrome}
 use Rattle.stripe.proofs.Word.{wordErrors, word-spread}
-use Rattle.mending.specs.declared.lost.Lost.{Lost}
+use Rattle.lost.specs.declared.Lost.{Lost}
 use Rattle.mending.specs.declared.plan.Plan.{Plan}
-use Rattle.mending.specs.Lost.{lostList}
+use Rattle.lost.specs.Lost.{lostList}
 use Rattle.mending.specs.Restore.{Ready}
 use Rattle.mending.specs.Slots.{weighted}
 use Rattle.mending.specs.Plan.{less, lostIn, gone, PivotOf, Planned}
@@ -269,7 +269,7 @@ weights-done at ws e x j v he few three long h =
         ∙ sym (points-at j (less x (take e at)) u (omega (arith, many, less-length x (take e at))))
 
 -- the plan from its parts
-pub planned : (s : Shape) (w : Lost) (e x a d : ℕ) → Ready s w → e ≤ w .count → take e (w .at) ≡ lostData (s .k) (lostList w) → PivotOf s w e x
+pub planned : (s : Shape) (w : Lost) (e x a d : ℕ) → Ready s w → e ≤ w .count → take e (w .at) ≡ lostData (s .k) (lostList w) → PivotOf (s .t) e (w .count) (getD (w .at) 0 0) x
     → a ≡ firstRow (rowLost (s .k) (lostList w)) → d ≡ rowStep (rowLost (s .k) (lostList w))
     → Planned s record { lost = w; count = e; pivot = x; first = a; step = d }
 planned s w e x a d r he front from ea ed =
@@ -306,22 +306,22 @@ planned s w e x a d r he front from ea ed =
         all : lostList w ≡ lostData (s .k) (lostList w)
         all = ap (λ (n : ℕ). take n (w .at)) (sym q) ∙ front
 
-    below : (v : ℕ) → v < e → PivotOf s w e x → x ≤ getD (w .at) v 0
+    below : (v : ℕ) → v < e → PivotOf (s .t) e (w .count) (getD (w .at) 0 0) x → x ≤ getD (w .at) v 0
     below v h (inl z) = omega arith
     below zero h (inr q) = omega (arith, q .1 .1 .1)
     below (suc v) h (inr q) =
         omega (arith, q .1 .1 .1, at 0 (omega arith), at (suc v) (omega arith), ascending-apart 0 (suc v) 0 (columns s) (lostList w) (r .ascend) (omega arith) (omega (arith, long)))
 
-    plain : s .r < runs s → PivotOf s w e x → x ≡ 0
+    plain : s .r < runs s → PivotOf (s .t) e (w .count) (getD (w .at) 0 0) x → x ≡ 0
     plain h (inl z) = z
     plain h (inr q) = absurd (omega (arith, plain-runs s (q .0), f .parity-some))
 
-    whole : (j : ℕ) → among (s .k + j) (lostList w) ≡ true → PivotOf s w e x → x ≡ 0
+    whole : (j : ℕ) → among (s .k + j) (lostList w) ≡ true → PivotOf (s .t) e (w .count) (getD (w .at) 0 0) x → x ≡ 0
     whole j m (inl z) = z
     whole j m (inr q) =
         let i = among-index (s .k + j) (lostList w) m in absurd (omega (arith, i .1 .1, data-only (q .1 .1 .0) (i .0) (omega (arith, i .1 .0, long))))
 
-    apart : PivotOf s w e x → (x ≡ 0) ⊎ ((s .t ≡ 0) × (x < s .k))
+    apart : PivotOf (s .t) e (w .count) (getD (w .at) 0 0) x → (x ≡ 0) ⊎ ((s .t ≡ 0) × (x < s .k))
     apart (inl z) = inl z
     apart (inr q) = inr (q .0, omega (arith, q .1 .1 .1, at 0 (omega (arith, q .1 .0)), data-only (q .1 .1 .0) 0 (omega (arith, q .1 .0))))
 

@@ -19,12 +19,14 @@ use Rattle.stripe.proofs.Places.{below-or-from, place-lt, by-places, across-fir
 use Rattle.stripe.proofs.Mended.{checkAt, wanted, wordAt, wanted-below, wanted-from, dataMended, data-mended-length, data-mended-at, mended-parity-below, mended-parity-from, parity-wanted, mended-agrees-exactly}
 use Rattle.stripe.proofs.Determined.{mendable}
 use Rattle.mending.specs.declared.plan.Plan.{Plan}
-use Rattle.mending.specs.Lost.{lostList, lostOf}
-use Rattle.mending.specs.Mend.{positions, mendRefusal, Restored}
+use Rattle.lost.specs.Lost.{lostList, lostOf}
+use Rattle.lost.specs.Positions.{positions}
+use Rattle.mending.specs.Mend.{mendRefusal, Restored}
 use Rattle.mending.specs.Restore.{Ready}
 use Rattle.mending.specs.Plan.{lostIn, Planned}
 use Rattle.mending.specs.Scratch.{rowByte, AllFine, SettledBelow, Added}
-use Rattle.mending.proofs.Listed.{Passed, passed, positions-length}
+use Rattle.lost.proofs.Listed.{positions-length}
+use Rattle.mending.proofs.Passed.{Passed, passed}
 use Rattle.mending.proofs.Settled.{all-fine}
 use Rattle.mending.proofs.Added.{added-word, added-row, added-kept}
 

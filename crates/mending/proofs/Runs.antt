@@ -26,7 +26,7 @@ use Rattle.syndromes.specs.Syndromes.{Syndromes}
 use Rattle.mending.specs.declared.plan.Plan.{Plan}
 use Rattle.mending.specs.Slots.{weighted, Outside, Sources, Gathered, Spaced, Solved}
 use Rattle.mending.specs.Plan.{less, lostIn, gone, Other, Planned}
-use Rattle.mending.specs.Scratch.{rowByte, Lies, lackAt, errorsAt, HoldsErrors, Lacks, SolvedBelow, Carried, RunSolved}
+use Rattle.mending.specs.Scratch.{rowByte, Lies, lackAt, errorsAt, HoldsErrors, Lacks, SolvedBelow, Carried}
 use Rattle.mending.proofs.Slots.{weighted-same}
 use Rattle.mending.proofs.Planned.{count-is, row-below, first-few, step-few, step-some, less-length, by-one, weighted-row, pivot-errors}
 
@@ -268,6 +268,12 @@ module _ (s : Shape) (f : Allowed s) (p : Plan) (w : Planned s p) (b j m : ℕ) 
 
 -- ---- sizes
 
+pub first-length : (s : Shape) (p : Plan) → Allowed s → Planned s p → p .first * s .l ≤ 12288
+first-length s p f w = mul-le-mul {n₂ = 3} {m₂ = 4096} (omega (arith, first-few s f p w)) (f .length-most)
+
+pub step-length : (s : Shape) (p : Plan) → Allowed s → Planned s p → p .step * s .l ≤ 12288
+step-length s p f w = mul-le-mul {n₂ = 3} {m₂ = 4096} (omega (arith, step-few s f p w)) (f .length-most)
+
 pub record Sizes (s : Shape) (p : Plan) (b j m : ℕ) : Type 0 where
   pub row : j * s .l ≤ 12288
   pub run : b * m ≤ 12288
@@ -280,9 +286,9 @@ sizes s p b j m f w hm hb hj =
     record {
       row = mul-le-mul {n₂ = 3} {m₂ = 4096} (omega (arith, f .parity-most)) (f .length-most);
       run = mul-le-mul {n₂ = 3} {m₂ = 4096} (omega (arith, f .runs-most)) short;
-      first = mul-le-mul {n₂ = 3} {m₂ = 4096} (omega (arith, first-few s f p w)) (f .length-most);
+      first = first-length s p f w;
       like = mul-le-mul {n₂ = 3} {m₂ = 4096} (omega (arith, f .parity-most)) short;
-      step = mul-le-mul {n₂ = 3} {m₂ = 4096} (omega (arith, step-few s f p w)) (f .length-most);
+      step = step-length s p f w;
     }
   where
     short : m ≤ 4096
@@ -295,7 +301,7 @@ run-spaced s p b m len f w hm hb long =
     record {
       few = omega (arith, w .many, w .few);
       small = omega (arith, f .parity-length);
-      step = mul-le-mul {n₂ = 3} {m₂ = 4096} (omega (arith, step-few s f p w)) (f .length-most);
+      step = step-length s p f w;
       wide = omega (arith, f .run-most, hm, mul-le-mul-right (s .l) (step-some s f p w));
       room = λ v h.
           subst (λ (z : ℕ). p .first * s .l + b * z + v * (p .step * s .l) + z ≤ len) (sym hm)
@@ -306,6 +312,11 @@ run-spaced s p b m len f w hm hb long =
     ends = omega (arith, f .cut, mul-le-mul-right (runLength s) hb, add-mul b 1 (runLength s))
 
 -- the run as it was solved, by the lengths and the powers that the function has
+-- one run more is solved
+pub record RunSolved (s : Shape) (p : Plan) (b : ℕ) (ys zs : List ℕ) : Type 0 where
+  pub long : length zs ≡ length ys
+  pub more : (xs : List ℕ) → Bytes xs → SolvedBelow s p xs b ys → SolvedBelow s p xs (b + 1) zs
+
 pub run-solved : (s : Shape) (f : Allowed s) (p : Plan) (w : Planned s p) (b m : ℕ) (bs ws ys us zs : List ℕ) → m ≡ runLength s → b < runs s → Bytes ys → Bytes us
     → bs ≡ points (p .step) (less (p .pivot) (gone s p)) → ws ≡ points (p .first) (less (p .pivot) (gone s p))
     → Carried s p b (s .r) ys us → Solved bs ws (p .first * s .l + b * m) (p .step * s .l) m us zs → RunSolved s p b ys zs

@@ -5,13 +5,14 @@ use mathlib.Core.Bool.{Bool, true, false, true≢false}
 use mathlib.Core.Logic.{_⊎_, inl, inr}
 use mathlib.Core.List.{List}
 use native.Mathlib.Omega.{arith}
-use lib.Bits.{bitOr, or-add-and, and-le-r, or-zero-l}
 use lib.Dec.{eqb}
 use native.Mathlib.Nat.{mul-le-mul-right, add-mul}
 use lib.ListN.{length, getD, take, drop}
+use Rattle.lanes.specs.Lanes.{allZero}
+use Rattle.lanes.proofs.Compare.{zero-at, zero-not}
 use Rattle.lanes.proofs.Parts.{part-length, part-at}
-use Rattle.stripe.specs.Shape.{parityLength}
 use borrow.Author.Tests.{eqb-true, eqb-false}
+use Rattle.stripe.specs.Shape.{parityLength}
 use Rattle.field.specs.Field.{_⊕_, _⊗_, gpow}
 use Rattle.field.specs.Bytes.{Bytes}
 use Rattle.field.specs.Row.{row}
@@ -33,34 +34,6 @@ use Rattle.mending.specs.Plan.{less, lostIn, gone, Solver, Other, Planne
 use Rattle.mending.specs.Scratch.{rowByte, errorsAt, StillLacks, Fine, AllFine, Says, SolvedBelow, SettledBelow, RowSettles}
 use Rattle.mending.proofs.Planned.{count-is, less-length, row-below, pivot-row, pivot-gone, power-zero-only, weighted-row, ordered, spread}
 use Rattle.mending.proofs.Runs.{place-off, errors-long, wanted-lt, word-is, word-row, slot-place}
-
--- ---- bytes that are all zero
-
-or-left : (z w : ℕ) → bitOr z w ≡ 0 → z ≡ 0
-or-left zero w e = refl
-or-left (suc z) w e = absurd (omega (arith, or-add-and (suc z) w, and-le-r (suc z) w))
-
-pub zero-turn : (xs : List ℕ) (z q : ℕ) → (z ≡ 0 → (i : ℕ) → i < q → getD xs i 0 ≡ 0) → bitOr z (getD xs q 0) ≡ 0 → (i : ℕ) → i < q + 1 → getD xs i 0 ≡ 0
-zero-turn xs z q h e i l = go (below-or-from i q)
-  where
-    none : z ≡ 0
-    none = or-left z (getD xs q 0) e
-
-    here : getD xs q 0 ≡ 0
-    here = sym (or-zero-l (getD xs q 0)) ∙ ap (λ (x : ℕ). bitOr x (getD xs q 0)) (sym none) ∙ e
-
-    go : (i < q) ⊎ (q ≤ i) → getD xs i 0 ≡ 0
-    go (inl m) = h none i m
-    go (inr m) = ap (λ (x : ℕ). getD xs x 0) (omega arith) ∙ here
-
-pub zero-back : (xs : List ℕ) (z q : ℕ) → q < length xs → (((i : ℕ) → i < length xs → getD xs i 0 ≡ 0) → z ≡ 0)
-    → ((i : ℕ) → i < length xs → getD xs i 0 ≡ 0) → bitOr z (getD xs q 0) ≡ 0
-zero-back xs z q l h all = ap₂ bitOr (h all) (all q l) ∙ or-zero-l 0
-
-pub zero-done : (xs : List ℕ) (z q : ℕ) → length xs ≤ q → (z ≡ 0 → (i : ℕ) → i < q → getD xs i 0 ≡ 0)
-    → (((i : ℕ) → i < length xs → getD xs i 0 ≡ 0) → z ≡ 0) → Says (eqb z 0) ((i : ℕ) → i < length xs → getD xs i 0 ≡ 0)
-zero-done xs z q l h k =
-    record { so = λ t i m. h (eqb-true z 0 t) i (omega arith); not-so = λ t all. eqb-false z 0 t (k all) }
 
 -- ---- which rows are solved by
 
@@ -213,19 +186,12 @@ finish-sources s f p w j hj o len long =
     at : (v q : ℕ) → (p .first + p .step * v) * s .l + q ≡ p .first * s .l + v * (p .step * s .l) + q
     at v q = omega arith
 
-pub finished : (s : Shape) (p : Plan) → Planned s p → (j : ℕ) (ws ys zs : List ℕ) → take (p .count) ws ≡ points j (less (p .pivot) (take (p .count) (p .lost .at)))
-    → Gathered (take (p .count) ws) (j * s .l) (p .first * s .l) (p .step * s .l) (s .l) ys zs
-    → Gathered (points j (less (p .pivot) (gone s p))) (j * s .l) (p .first * s .l) (p .step * s .l) (s .l) ys zs
-finished s p w j ws ys zs e g =
-    subst (λ (l : List ℕ). Gathered l (j * s .l) (p .first * s .l) (p .step * s .l) (s .l) ys zs) (e ∙ ap (λ (l : List ℕ). points j (less (p .pivot) l)) (w .front)) g
-
-pub clean-says : (xs : List ℕ) (j l : ℕ) (b v : Bool) → j * l + l ≤ length xs → b ≡ false
-    → Says v ((q : ℕ) → q < length (take (j * l + l - j * l) (drop (j * l) xs)) → getD (take (j * l + l - j * l) (drop (j * l) xs)) q 0 ≡ 0)
+pub clean-says : (xs : List ℕ) (j l : ℕ) (b v : Bool) → j * l + l ≤ length xs → b ≡ false → v ≡ allZero (take (j * l + l - j * l) (drop (j * l) xs))
     → Says v (b ≡ false → (y : ℕ) → y < l → getD xs (j * l + y) 0 ≡ 0)
 clean-says xs j l b v fits e z =
     record {
-      so = λ t m y h. sym (part-at xs (j * l) l y h) ∙ z .so t y (omega (arith, part-length xs (j * l) l fits));
-      not-so = λ t all. z .not-so t (λ q h. let k : q < l = omega (arith, part-length xs (j * l) l fits) in part-at xs (j * l) l q k ∙ all e q k);
+      so = λ t m y h. sym (part-at xs (j * l) l y h) ∙ zero-at _ (sym z ∙ t) y;
+      not-so = λ t all. zero-not _ (sym z ∙ t) (λ q h. let k : q < l = omega (arith, part-length xs (j * l) l fits) in part-at xs (j * l) l q k ∙ all e q k);
     }
 
 pub settled-all : (s : Shape) (p : Plan) (xs ys : List ℕ) (j : ℕ) → j ≤ s .r → s .r ≤ j → SettledBelow s p xs j ys → SettledBelow s p xs (s .r) ys

@@ -1,73 +1,73 @@
 -- Slots: what each turn of the loops over them adds, and why they solve the sums at every place.
 use Prim.Native.Nat.{ℕ, zero, suc, _+_, _*_, _-_, _≤_, _<_}
 use mathlib.Core.Path.{_≡_, refl, sym, ap, ap₂, subst, _∙_}
-use mathlib.Core.List.{List, [], _∷_}
+use mathlib.Core.List.{List, [], _∷_, map}
 use mathlib.Core.Logic.{_⊎_, inl, inr}
 use native.Mathlib.Nat.{le-of-suc-le-suc, not-suc-le-zero, suc-inj, suc-ne-zero, mul-le-mul-right, add-mul}
 use native.Mathlib.Numerals.{add-one}
 use native.Mathlib.Omega.{arith}
-use lib.ListN.{length, getD, set, take, drop, length-drop}
+use lib.Dec.{lit<}
+use lib.ListN.{length, getD, set, take, drop, length-drop, length-map}
 use lib.Seq.{getD-take, ext-getD, length-take-le, take-all, getD-set-same, getD-set-other}
 use borrow.Rule.Slice.PartMut.{putMid}
 use Rattle.field.specs.Field.{_⊕_, _⊗_, inverseOf}
 use Rattle.field.specs.Bytes.{Bytes}
 use Rattle.field.specs.Solve.{solve, moment, apart, cleared}
 use Rattle.field.proofs.Xor.{add-zero, sums}
-use Rattle.field.proofs.Mul.{mul-assoc, zero-mul, one-mul, add-mul as product-sum, power-zero}
+use Rattle.field.proofs.Mul.{mul-assoc, one-mul, power-zero, inverse-unique}
 use Rattle.field.proofs.Solve.{solve-same, solve-bytes, solve-length, apart-length}
-use Rattle.lanes.specs.Lanes.{onto}
-use Rattle.lanes.proofs.Onto.{onto-length, onto-at}
+use Rattle.lanes.specs.Lanes.{within}
+use Rattle.lanes.proofs.Within.{Apart, Within, within-places, map-at}
 use Rattle.lanes.proofs.Parts.{part-length, part-at, back-length, back-inside, back-outside}
 use Rattle.stripe.proofs.Places.{below-or-from}
 use Rattle.mending.specs.Slots.{slotsAt, weighted, Outside, Mixed, Sources, Gathered, Spaced, OffSlots, Cleared, SetApart, First, Solved}
 
 -- ---- one slot onto another
 
-onto-same : (f g : ℕ → ℕ → ℕ) (xs ys : List ℕ) → ((x i : ℕ) → f x (getD ys i 0) ≡ g x (getD ys i 0)) → onto f xs ys ≡ onto g xs ys
-unfolding onto
-onto-same f g [] ys h = refl
-onto-same f g (x ∷ xs) [] h = refl
-onto-same f g (x ∷ xs) (y ∷ ys) h = ap₂ (λ (z : ℕ) (zs : List ℕ). z ∷ zs) (h x 0) (onto-same f g xs ys (λ x i. h x (suc i)))
-
-pub mixed-made : (a b n c : ℕ) (xs t u zs : List ℕ) → a + n ≤ length xs → b + n ≤ length xs → n ≤ length t
-    → u ≡ onto (λ (x y : ℕ). y) t (take (b + n - b) (drop b xs))
-    → zs ≡ onto (λ (x y : ℕ). x ⊕ c ⊗ y) (take (a + n - a) (drop a xs)) u → Mixed a b n c xs (putMid a (a + n - a) xs zs)
-mixed-made a b n c xs t u zs ha hb ht eu ez =
-    record { long = back-length xs zs a n long ha; on = on; off = back-outside xs zs a n long ha }
+pub mixed-made : (a b n c : ℕ) (xs ys : List ℕ) → Apart a b n (length xs) → ys ≡ within (λ (x y : ℕ). x ⊕ c ⊗ y) a b n xs → Mixed a b n c xs ys
+mixed-made a b n c xs ys h e = subst (Mixed a b n c xs) (sym e) record { long = w .long; on = w .on; off = w .off }
   where
-    long : length zs ≡ n
-    long = ap length ez ∙ onto-length _ (take (a + n - a) (drop a xs)) u ∙ part-length xs a n ha
+    w : Within (λ (x y : ℕ). x ⊕ c ⊗ y) a b n xs (within (λ (x y : ℕ). x ⊕ c ⊗ y) a b n xs)
+    w = within-places (λ (x y : ℕ). x ⊕ c ⊗ y) a b n xs h
 
-    u-long : length u ≡ length t
-    u-long = ap length eu ∙ onto-length _ t (take (b + n - b) (drop b xs))
-
-    on : (q : ℕ) → q < n → getD (putMid a (a + n - a) xs zs) (a + q) 0 ≡ getD xs (a + q) 0 ⊕ c ⊗ getD xs (b + q) 0
-    on q h =
-        back-inside xs zs a n long ha q h ∙ ap (λ (l : List ℕ). getD l q 0) ez
-        ∙ onto-at _ (take (a + n - a) (drop a xs)) u q (omega (arith, part-length xs a n ha)) (omega (arith, u-long))
-        ∙ ap₂ (λ (x y : ℕ). x ⊕ c ⊗ y) (part-at xs a n q h)
-        (ap (λ (l : List ℕ). getD l q 0) eu
-        ∙ onto-at _ t (take (b + n - b) (drop b xs)) q (omega arith) (omega (arith, part-length xs b n hb)) ∙ part-at xs b n q h)
-
--- c is 0, or 1
-pub mixed-none : (a b n c : ℕ) (xs : List ℕ) → c ≡ 0 → Mixed a b n c xs xs
-mixed-none a b n c xs e =
-    record {
-      long = refl;
-      on = λ q h. sym (ap (λ (z : ℕ). getD xs (a + q) 0 ⊕ z ⊗ getD xs (b + q) 0) e ∙ ap (λ (z : ℕ). getD xs (a + q) 0 ⊕ z) (zero-mul _) ∙ add-zero _);
-      off = λ i h. refl;
-    }
-
-pub mixed-one : (a b n c : ℕ) (xs t u zs : List ℕ) → c ≡ 1 → Bytes u → a + n ≤ length xs → b + n ≤ length xs → n ≤ length t
-    → u ≡ onto (λ (x y : ℕ). y) t (take (b + n - b) (drop b xs))
-    → zs ≡ onto (λ (x y : ℕ). x ⊕ y) (take (a + n - a) (drop a xs)) u → Mixed a b n c xs (putMid a (a + n - a) xs zs)
-mixed-one a b n c xs t u zs ec bu ha hb ht eu ez = mixed-made a b n c xs t u zs ha hb ht eu (ez ∙ same (take (a + n - a) (drop a xs)) u bu)
+-- c is 1
+pub mixed-one : (a b n c : ℕ) (xs ys : List ℕ) → c ≡ 1 → Bytes xs → Apart a b n (length xs) → ys ≡ within (λ (x y : ℕ). x ⊕ y) a b n xs → Mixed a b n c xs ys
+mixed-one a b n c xs ys ec bytes h e =
+    subst (Mixed a b n c xs) (sym e)
+    record { long = w .long; on = λ q l. w .on q l ∙ by-one (getD xs (a + q) 0) (getD xs (b + q) 0) (bytes (b + q)); off = w .off }
   where
+    w : Within (λ (x y : ℕ). x ⊕ y) a b n xs (within (λ (x y : ℕ). x ⊕ y) a b n xs)
+    w = within-places (λ (x y : ℕ). x ⊕ y) a b n xs h
+
     by-one : (x y : ℕ) → y < 256 → x ⊕ y ≡ x ⊕ c ⊗ y
     by-one x y h = sym (ap (λ (z : ℕ). x ⊕ z ⊗ y) ec ∙ ap (λ (z : ℕ). x ⊕ z) (one-mul y h))
 
-    same : (xs ys : List ℕ) → Bytes ys → onto (λ (x y : ℕ). x ⊕ y) xs ys ≡ onto (λ (x y : ℕ). x ⊕ c ⊗ y) xs ys
-    same xs ys h = onto-same _ _ xs ys (λ x i. by-one x (getD ys i 0) (h i))
+-- a slot that is none of the sources is apart from each
+pub sources-apart : {e a b d n len : ℕ} → Sources e a b d n len → (v : ℕ) → v < e → Apart a (b + v * d) n len
+sources-apart {e} {a} {b} {d} {n} {len} s v h = record { first = s .target; second = s .source v h; clear = go (below-or-from (b + v * d) a) }
+  where
+    low : b + v * d < a → (a < b + v * d + n) ⊎ (b + v * d + n ≤ a) → (a + n ≤ b + v * d) ⊎ (b + v * d + n ≤ a)
+    low l (inr m) = inr m
+    low l (inl m) = absurd (never (s .apart v (a - (b + v * d)) h (omega arith)))
+      where
+        never : Outside a n (b + v * d + (a - (b + v * d))) → ⊥
+        never (inl k) = omega arith
+        never (inr k) = omega arith
+
+    high : a ≤ b + v * d → (0 < n) ⊎ (n ≤ 0) → (a + n ≤ b + v * d) ⊎ (b + v * d + n ≤ a)
+    high l (inr m) = inl (omega arith)
+    high l (inl m) = inl (past (s .apart v 0 h m))
+      where
+        past : Outside a n (b + v * d + 0) → a + n ≤ b + v * d
+        past (inl k) = absurd (omega arith)
+        past (inr k) = omega arith
+
+    go : (b + v * d < a) ⊎ (a ≤ b + v * d) → (a + n ≤ b + v * d) ⊎ (b + v * d + n ≤ a)
+    go (inl l) = low l (below-or-from a (b + v * d + n))
+    go (inr l) = high l (below-or-from 0 n)
+
+pub apart-as : (a b n len len′ : ℕ) → len ≡ len′ → Apart a b n len → Apart a b n len′
+apart-as a b n len len′ e h = subst (Apart a b n) e h
 
 -- ---- weighted sums
 
@@ -214,22 +214,38 @@ setting-turn bs ws xs v x hv lv few long h e u l = go (below-or-from (u + 1) v)
 pub rest : (xs : List ℕ) (a : ℕ) → take (length xs - a) (drop a xs) ≡ drop a xs
 rest xs a = take-all (length xs - a) (drop a xs) (omega (arith, length-drop a xs))
 
--- what is, and that times one more
-twice : (i x : ℕ) → x < 256 → x ⊕ (i ⊕ 1) ⊗ x ≡ i ⊗ x
-twice i x h = ap (λ (y : ℕ). x ⊕ y) (product-sum i 1 x ∙ ap (λ (y : ℕ). i ⊗ x ⊕ y) (one-mul x h)) ∙ undo x (i ⊗ x)
-  where
-    undo : (x y : ℕ) → x ⊕ (y ⊕ x) ≡ y
-    undo x y = simp sums
+first-gathered : (ws : List ℕ) (a d n : ℕ) (xs us : List ℕ) → Gathered (take (length ws - 1) (drop 1 ws)) a (a + d) d n xs us → (q : ℕ) → q < n
+    → getD us (a + q) 0 ≡ getD xs (a + q) 0 ⊕ weighted (drop 1 ws) (slotsAt xs (a + d) d q)
+first-gathered ws a d n xs us g q h = g .on q h ∙ ap (λ (l : List ℕ). getD xs (a + q) 0 ⊕ weighted l (slotsAt xs (a + d) d q)) (rest ws 1)
 
-pub first-made : (ws : List ℕ) (a d n i c : ℕ) (xs us ys : List ℕ) → Bytes us → Gathered (take (length ws - 1) (drop 1 ws)) a (a + d) d n xs us
-    → i ≡ inverseOf (getD ws 0 0) → c ≡ i ⊕ 1 → Mixed a a n c us ys → First ws a d n xs ys
-first-made ws a d n i c xs us ys bytes g ei ec m =
-    record { long = m .long ∙ g .long; first = first; others = λ j h. m .off j h ∙ g .off j h }
+-- the first weight is 1
+pub first-one : (ws : List ℕ) (a d n : ℕ) (xs us : List ℕ) → Bytes us → getD ws 0 0 ≡ 1 → Gathered (take (length ws - 1) (drop 1 ws)) a (a + d) d n xs us
+    → First ws a d n xs us
+first-one ws a d n xs us bytes e g =
+    record {
+      long = g .long;
+      first = λ q h. sym (one-mul _ (bytes (a + q))) ∙ ap₂ _⊗_ (inverse-one ∙ ap inverseOf (sym e)) (first-gathered ws a d n xs us g q h);
+      others = g .off;
+    }
   where
-    first : (q : ℕ) → q < n → getD ys (a + q) 0 ≡ inverseOf (getD ws 0 0) ⊗ (getD xs (a + q) 0 ⊕ weighted (drop 1 ws) (slotsAt xs (a + d) d q))
+    inverse-one : 1 ≡ inverseOf 1
+    inverse-one = inverse-unique 1 1 (lit< tt) (lit< tt) (lit< tt) (one-mul 1 (lit< tt))
+
+pub first-made : (ws : List ℕ) (a d n i : ℕ) (xs us zs : List ℕ) → a + n ≤ length us → Gathered (take (length ws - 1) (drop 1 ws)) a (a + d) d n xs us
+    → i ≡ inverseOf (getD ws 0 0) → zs ≡ map (λ (x : ℕ). i ⊗ x) (take (a + n - a) (drop a us)) → First ws a d n xs (putMid a (a + n - a) us zs)
+first-made ws a d n i xs us zs fits g ei ez =
+    record { long = back-length us zs a n long fits ∙ g .long; first = first; others = λ j h. back-outside us zs a n long fits j h ∙ g .off j h }
+  where
+    part : List ℕ
+    part = take (a + n - a) (drop a us)
+
+    long : length zs ≡ n
+    long = ap length ez ∙ length-map part (λ (x : ℕ). i ⊗ x) ∙ part-length us a n fits
+
+    first : (q : ℕ) → q < n → getD (putMid a (a + n - a) us zs) (a + q) 0 ≡ inverseOf (getD ws 0 0) ⊗ (getD xs (a + q) 0 ⊕ weighted (drop 1 ws) (slotsAt xs (a + d) d q))
     first q h =
-        m .on q h ∙ ap (λ (y : ℕ). getD us (a + q) 0 ⊕ y ⊗ getD us (a + q) 0) ec ∙ twice i (getD us (a + q) 0) (bytes (a + q))
-        ∙ ap₂ _⊗_ ei (g .on q h ∙ ap (λ (l : List ℕ). getD xs (a + q) 0 ⊕ weighted l (slotsAt xs (a + d) d q)) (rest ws 1))
+        back-inside us zs a n long fits q h ∙ ap (λ (l : List ℕ). getD l q 0) ez ∙ map-at (λ (x : ℕ). i ⊗ x) part q (omega (arith, part-length us a n fits))
+        ∙ ap₂ _⊗_ ei (part-at us a n q h ∙ first-gathered ws a d n xs us g q h)
 
 -- ---- the step of solving
 

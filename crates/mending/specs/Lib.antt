@@ -1,5 +1,4 @@
 pub mod Mend
-pub mod Lost
 pub mod Slots
 pub mod Restore
 pub mod Plan

@@ -1,35 +1,19 @@
--- Mending (document 01, 'Mending'): the list of lost positions as it is lent, what is refused, and the outcome by existence.
-use Prim.Native.Nat.{ℕ, suc, _+_, _*_, _%_}
+-- Mending (document 01, 'Mending'): what is refused, and the outcome by existence.
+use Prim.Native.Nat.{ℕ}
 use mathlib.Core.Path.{_≡_}
-use mathlib.Core.Bool.{Bool, true, cond, _&&_}
+use mathlib.Core.Bool.{cond}
 use mathlib.Core.Logic.{_⊎_}
-use mathlib.Core.List.{List, [], _∷_}
-use lib.Dec.{leb, ltb, eqb}
+use mathlib.Core.List.{List}
+use lib.Dec.{eqb}
 use lib.ListN.{length}
 use Rattle.stripe.specs.declared.Shape.{Shape}
 use Rattle.stripe.specs.Shape.{shapeRefusal, columns, stripeLength}
 use Rattle.stripe.specs.Stripe.{Codeword, Agree}
-
--- the positions that pairs of bytes name, low byte first
-unfoldable pub positions : List ℕ → List ℕ
-positions [] = []
-positions (a ∷ []) = []
-positions (a ∷ b ∷ ls) = (a + b * 256) ∷ positions ls
-
--- whether positions are strictly ascending, each at least a and below n
-unfoldable pub ascending : ℕ → ℕ → List ℕ → Bool
-ascending a n [] = true
-ascending a n (e ∷ es) = leb a e && ltb e n && ascending (suc e) n es
-
--- the refusal of a lent list: 5 for an odd length, 6 for positions that do not ascend below n, 7 for more than r of them, 0 for none
-unfoldable pub listRefusal : Shape → List ℕ → ℕ
-listRefusal s ls =
-    cond (eqb (length ls % 2) 0)
-    (cond (ascending 0 (columns s) (positions ls)) (cond (leb (length (positions ls)) (s .r)) 0 7) 6) 5
+use Rattle.lost.specs.Positions.{positions, listRefusal}
 
 -- what is refused before a byte of the stripe, of which d are lent, is looked at: 1 or 2 for the shape, 5, 6 or 7, 0 for none
 unfoldable pub mendRefusal : Shape → ℕ → List ℕ → ℕ
-mendRefusal s d ls = cond (eqb (shapeRefusal s) 0) (cond (eqb d (stripeLength s)) (listRefusal s ls) 5) (shapeRefusal s)
+mendRefusal s d ls = cond (eqb (shapeRefusal s) 0) (cond (eqb d (stripeLength s)) (listRefusal (columns s) (s .r) ls) 5) (shapeRefusal s)
 
 -- a codeword that agrees with the stripe in every surviving column
 pub record Restored (s : Shape) (es xs ys : List ℕ) : Type 0 where

@@ -10,9 +10,8 @@ use Rattle.stripe.specs.Shape.{columns}
 use Rattle.stripe.specs.Stripe.{runs, among, Ascending}
 use Rattle.stripe.proofs.Survivors.{firstRow, rowStep}
 use Rattle.stripe.proofs.Lost.{lostData, rowLost}
-use Rattle.mending.specs.declared.lost.Lost.{Lost}
 use Rattle.mending.specs.declared.plan.Plan.{Plan}
-use Rattle.mending.specs.Lost.{lostList}
+use Rattle.lost.specs.Lost.{lostList}
 
 -- positions counted from x on
 unfoldable pub less : ℕ → List ℕ → List ℕ
@@ -33,9 +32,9 @@ Solver p j = (v : ℕ) × ((v < p .count) × (p .first + p .step * v ≡ j))
 abbrev pub Other : Plan → ℕ → Type 0
 Other p j = Solver p j → ⊥
 
--- where positions are counted from: 0, or in a plain stripe that has lost e data columns and no other the first of them
-abbrev pub PivotOf : Shape → Lost → ℕ → ℕ → Type 0
-PivotOf s w e x = (x ≡ 0) ⊎ ((s .t ≡ 0) × ((0 < e) × ((e ≡ w .count) × (x ≡ getD (w .at) 0 0))))
+-- where positions are counted from: 0, or in a plain stripe, where the e lost data columns are all n that are lost, the first of them, i
+abbrev pub PivotOf : ℕ → ℕ → ℕ → ℕ → ℕ → Type 0
+PivotOf t e n i x = (x ≡ 0) ⊎ ((t ≡ 0) × ((0 < e) × ((e ≡ n) × (x ≡ i))))
 
 -- the columns are the lost ones and the rows the first that survive; positions are counted from 0 on unless the stripe is plain and no row is lost
 pub record Planned (s : Shape) (p : Plan) : Type 0 where

@@ -7,10 +7,10 @@ use lib.ListN.{length}
 use Rattle.stripe.specs.declared.Shape.{Shape}
 use Rattle.stripe.specs.Shape.{shapeRefusal, columns}
 use Rattle.stripe.specs.Stripe.{Ascending}
-use Rattle.coding.specs.declared.check.Wrong.{Wrong}
-use Rattle.coding.specs.declared.check.Wrong.the-variants.{Nowhere, At, Refused}
-use Rattle.mending.specs.declared.lost.Lost.{Lost}
-use Rattle.mending.specs.Lost.{lostList}
+use Rattle.checking.specs.declared.Wrong.{Wrong}
+use Rattle.checking.specs.declared.Wrong.the-variants.{Nowhere, At, Refused}
+use Rattle.lost.specs.declared.Lost.{Lost}
+use Rattle.lost.specs.Lost.{lostList}
 use Rattle.mending.specs.Mend.{Restored}
 
 pub record Ready (s : Shape) (w : Lost) : Type 0 where

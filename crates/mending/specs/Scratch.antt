@@ -64,10 +64,6 @@ pub record SolvedBelow (s : Shape) (p : Plan) (xs : List ℕ) (b : ℕ) (ys : Li
   pub rows : (j y : ℕ) → j < s .r → Other p j → y < b * runLength s → y < s .l → Lacks s p xs ys j y
   pub rest : (j y : ℕ) → j < s .r → b * runLength s ≤ y → y < s .l → Lies s (p .pivot) xs ys j y
 
-pub record RunSolved (s : Shape) (p : Plan) (b : ℕ) (ys zs : List ℕ) : Type 0 where
-  pub long : length zs ≡ length ys
-  pub more : (xs : List ℕ) → Bytes xs → SolvedBelow s p xs b ys → SolvedBelow s p xs (b + 1) zs
-
 pub record RunsSolved (s : Shape) (p : Plan) (ys zs : List ℕ) : Type 0 where
   pub long : length zs ≡ length ys
   pub all : (xs : List ℕ) → Bytes xs → Syndromes s (p .pivot) xs ys → SolvedBelow s p xs (runs s) zs
@@ -79,11 +75,6 @@ pub record Carried (s : Shape) (p : Plan) (b j : ℕ) (ys zs : List ℕ) : Type 
       → rowByte s zs i (b * runLength s + q)
       ≡ rowByte s ys i (b * runLength s + q) ⊕ weighted (points b (gone s p)) (λ v. rowByte s ys (p .first + p .step * v) (i * runLength s + q))
   pub off : (i y : ℕ) → i < s .r → y < s .l → (b < s .r) ⊎ ((j ≤ i) ⊎ Outside (b * runLength s) (runLength s) y) → rowByte s zs i y ≡ rowByte s ys i y
-
--- one row more
-pub record RowCarried (s : Shape) (p : Plan) (b j : ℕ) (ys zs : List ℕ) : Type 0 where
-  pub long : length zs ≡ length ys
-  pub more : (xs : List ℕ) → Carried s p b j xs ys → Carried s p b (j + 1) xs zs
 
 -- the mended data have the row that is wanted, at each place in each row that survives
 abbrev pub Fine : Shape → List ℕ → List ℕ → ℕ → ℕ → Type 0

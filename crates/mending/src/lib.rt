@@ -1,23 +1,23 @@
 // Mending: the lost columns of a stripe restored, or refused where no codeword agrees with the columns that survive.
 // Nothing is written before everything is judged.
-pub mod lost;
 mod mix;
 mod plan;
 mod run;
 mod scalars;
 mod settle;
 mod solve;
+mod survivors;
 mod write;
 
-use crate::lost::Lost;
-use crate::lost::list_refusal;
-use crate::lost::lost_of;
 use crate::plan::plan_of;
 use crate::run::solve_runs;
 use crate::settle::settle;
 use crate::write::write;
-use coding::check::Wrong;
-use coding::check::first_wrong;
+use checking::Wrong;
+use checking::first_wrong;
+use lost::Lost;
+use lost::list_refusal;
+use lost::lost_of;
 use stripe::Shape;
 use syndromes::syndromes;
 ghost use mathlib.Core.Path.{_≡_};
@@ -26,7 +26,7 @@ ghost use mathlib.Core.List.{[]};
 ghost use lib.ListN.{length};
 ghost use Rattle.stripe.specs.Shape.{shapeRefusal, parityLength, stripeLength};
 ghost use Rattle.mending.specs.Mend.{mendRefusal, Mended};
-ghost use Rattle.mending.specs.Lost.{lostList};
+ghost use Rattle.lost.specs.Lost.{lostList};
 ghost use Rattle.mending.specs.Restore.{Ready, Restores, verdictOf};
 
 // The stripe with its lost columns mended, and 0; or a refusal, and the stripe stays: 1, 2, 5, 6 or 7 for what is lent, 8 where no
@@ -78,52 +78,51 @@ fn mend_refusal(s: Shape, d: usize, list: &[u8]) -> u32
     let k = s.k;
     let r = s.r;
     let l = s.l;
-    if d != (k + r) * l {
+    let n = k + r;
+    if d != n * l {
         return 5;
     }
-    list_refusal(s, list)
+    list_refusal(n, r, list)
 }
 
-// 0 with the lost columns mended, or 8 and the stripe stays; the scratch is no longer than a short stripe needs.
+// 0 with the lost columns mended, or 8 and the stripe stays; the scratch is not much longer than r rows.
 fn restore(s: Shape, lost: Lost, stripe: &mut [u8]) -> u32
     requires { ⌜ Ready s lost × (length (now stripe) ≡ stripeLength s) ⌝ }
     ensures { λ v. ⌜ Restores s (lostList lost) (now (stripe .entry)) v (now (stripe .exit)) ⌝ }
 {
-    if s.l <= 64 {
+    let n = s.r * s.l;
+    if n <= 192 {
         let mut slots = [0u8; 192];
-        let mut spare = [0u8; 64];
-        return restore_in(s, lost, stripe, &mut slots, &mut spare);
+        return restore_in(s, lost, stripe, &mut slots);
     }
-    if s.l <= 512 {
+    if n <= 1536 {
         let mut slots = [0u8; 1536];
-        let mut spare = [0u8; 512];
-        return restore_in(s, lost, stripe, &mut slots, &mut spare);
+        return restore_in(s, lost, stripe, &mut slots);
     }
     let mut slots = [0u8; 12288];
-    let mut spare = [0u8; 4096];
-    restore_in(s, lost, stripe, &mut slots, &mut spare)
+    restore_in(s, lost, stripe, &mut slots)
 }
 
 // The same, in scratch that has room for r rows.
-fn restore_in(s: Shape, lost: Lost, stripe: &mut [u8], slots: &mut [u8], spare: &mut [u8]) -> u32
-    requires { ⌜ Ready s lost × ((length (now stripe) ≡ stripeLength s) × ((parityLength s ≤ length (now slots)) × (s .l ≤ length (now spare)))) ⌝ }
+fn restore_in(s: Shape, lost: Lost, stripe: &mut [u8], slots: &mut [u8]) -> u32
+    requires { ⌜ Ready s lost × ((length (now stripe) ≡ stripeLength s) × (parityLength s ≤ length (now slots))) ⌝ }
     ensures { λ v. ⌜ Restores s (lostList lost) (now (stripe .entry)) v (now (stripe .exit)) ⌝ }
 {
     let r = s.r;
     let l = s.l;
     let n = r * l;
-    restore_rows(s, lost, stripe, &mut slots[..n], spare)
+    restore_rows(s, lost, stripe, &mut slots[..n])
 }
 
 // The same, in r rows: everything is judged there before a byte is written.
-fn restore_rows(s: Shape, lost: Lost, stripe: &mut [u8], slots: &mut [u8], spare: &mut [u8]) -> u32
-    requires { ⌜ Ready s lost × ((length (now stripe) ≡ stripeLength s) × ((length (now slots) ≡ parityLength s) × (s .l ≤ length (now spare)))) ⌝ }
+fn restore_rows(s: Shape, lost: Lost, stripe: &mut [u8], slots: &mut [u8]) -> u32
+    requires { ⌜ Ready s lost × ((length (now stripe) ≡ stripeLength s) × (length (now slots) ≡ parityLength s)) ⌝ }
     ensures { λ v. ⌜ Restores s (lostList lost) (now (stripe .entry)) v (now (stripe .exit)) ⌝ }
 {
     let p = plan_of(s, lost);
     syndromes(s, p.pivot, stripe, slots);
-    solve_runs(s, p, slots, spare);
-    if !settle(s, p, slots, spare) {
+    solve_runs(s, p, slots);
+    if !settle(s, p, slots) {
         return 8;
     }
     write(s, p, slots, stripe);

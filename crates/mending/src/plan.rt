@@ -1,10 +1,10 @@
 // What to solve by, once for all places: which lost columns, which rows, and the powers of g that belong to them.
-use crate::lost::CAPACITY;
-use crate::lost::Lost;
-use crate::lost::data_lost;
-use crate::lost::first_row;
-use crate::lost::row_step;
 use crate::scalars::power;
+use crate::survivors::data_lost;
+use crate::survivors::first_row;
+use crate::survivors::row_step;
+use lost::CAPACITY;
+use lost::Lost;
 use stripe::Shape;
 ghost use mathlib.Core.Path.{_≡_};
 ghost use Prim.Native.Nat.{ℕ, _≤_, _<_};
@@ -32,7 +32,8 @@ pub(crate) fn plan_of(s: Shape, lost: Lost) -> Plan
     let count = data_lost(lost, k, k + r);
     let first = first_row(lost, k);
     let step = row_step(lost, k);
-    let pivot = pivot_of(s, lost, count);
+    let at = lost.at;
+    let pivot = pivot_of(s.t, count, lost.count, at[0]);
     Plan {
         lost,
         count,
@@ -42,22 +43,20 @@ pub(crate) fn plan_of(s: Shape, lost: Lost) -> Plan
     }
 }
 
-// The first lost column, where the stripe is plain and only data columns are lost, so that its weights are 1; else 0.
-fn pivot_of(s: Shape, lost: Lost, count: usize) -> usize
-    requires { ⌜ count ≤ lost .count ⌝ }
-    ensures { λ x. ⌜ PivotOf s lost count x ⌝ }
+// The first of the lost columns, where the stripe is plain and all of them are data columns, so that its weights are 1; else 0.
+fn pivot_of(t: usize, count: usize, all: usize, first: usize) -> usize
+    ensures { λ x. ⌜ PivotOf t count all first x ⌝ }
 {
-    if s.t != 0 {
+    if t != 0 {
         return 0;
     }
-    if count < lost.count {
+    if count != all {
         return 0;
     }
     if count == 0 {
         return 0;
     }
-    let at = lost.at;
-    at[0]
+    first
 }
 
 // g^((i - x) * j) for each lost data column i.
@@ -70,8 +69,7 @@ pub(crate) fn row_weights(p: Plan, x: usize, j: usize) -> [u8; CAPACITY]
     let mut w = [0u8; CAPACITY];
     let mut v = 0;
     while v < p.count {
-        let g = power((at[v] - x) * j);
-        w[v] = g.0;
+        w[v] = power((at[v] - x) * j);
         v += 1;
     }
     w

@@ -1,35 +1,26 @@
-// Powers, products and inverses of single elements. Most are of 1 or are 1 and need no table: a look at one costs as much as a block
-// of places.
+// Powers and products of single elements. Most powers are low, and most products are of 1: they need no table, a look at which costs as
+// much as a block of places.
 use field::Gf;
 ghost use mathlib.Core.Path.{_≡_};
-ghost use Rattle.field.specs.Field.{_⊗_, gpow, inverseOf};
+ghost use Rattle.field.specs.Field.{_⊗_, gpow};
 
 // g^n.
-pub(crate) fn power(n: usize) -> Gf
-    ensures { λ v. ⌜ v .0 ≡ gpow n ⌝ }
+pub(crate) fn power(n: usize) -> u8
+    ensures { λ v. ⌜ v ≡ gpow n ⌝ }
 {
-    if n == 0 {
-        return Gf(1);
+    if n < 8 {
+        let low = [1u8, 2, 4, 8, 16, 32, 64, 128];
+        return low[n];
     }
-    Gf::power(n)
+    Gf::power(n).0
 }
 
 // x times y.
-pub(crate) fn product(x: Gf, y: Gf) -> Gf
-    ensures { λ v. ⌜ v .0 ≡ x .0 ⊗ y .0 ⌝ }
+pub(crate) fn product(x: u8, y: u8) -> u8
+    ensures { λ v. ⌜ v ≡ x ⊗ y ⌝ }
 {
-    if x.0 == 1 {
+    if x == 1 {
         return y;
     }
-    x.product(y)
-}
-
-// The inverse of x.
-pub(crate) fn inverse(x: Gf) -> Gf
-    ensures { λ v. ⌜ v .0 ≡ inverseOf (x .0) ⌝ }
-{
-    if x.0 == 1 {
-        return x;
-    }
-    x.inverse()
+    Gf(x).product(Gf(y)).0
 }

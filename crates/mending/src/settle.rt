@@ -1,29 +1,27 @@
 // The rows that are not solved by: with the errors added, one that survives must lack nothing, and one that is lost holds what it lacks.
-use crate::lost::is_lost;
-use crate::mix::gather;
 use crate::plan::Plan;
-use crate::plan::row_weights;
+use crate::run::add_row;
+use crate::survivors::is_lost;
+use lanes::all_zero;
 use stripe::Shape;
 ghost use mathlib.Core.Path.{_≡_};
 ghost use mathlib.Core.Bool.{false};
 ghost use Prim.Native.Nat.{ℕ, _+_, _*_, _≤_, _<_};
 ghost use lib.ListN.{length, getD};
 ghost use Rattle.stripe.specs.Stripe.{among};
-ghost use Rattle.stripe.proofs.Errors.{points as powers};
-ghost use Rattle.mending.specs.Lost.{lostList};
-ghost use Rattle.mending.specs.Slots.{Gathered};
-ghost use Rattle.mending.specs.Plan.{less, gone, Solver, Other};
+ghost use Rattle.lost.specs.Lost.{lostList};
+ghost use Rattle.mending.specs.Plan.{Solver};
 ghost use Rattle.mending.specs.Scratch.{Buffers, Settles, RowSettles, Says};
 
 // Whether each row that survives lacks nothing.
-pub(crate) fn settle(s: Shape, p: Plan, slots: &mut [u8], spare: &mut [u8]) -> bool
-    requires { ⌜ Buffers s p (length (now slots)) × (s .l ≤ length (now spare)) ⌝ }
+pub(crate) fn settle(s: Shape, p: Plan, slots: &mut [u8]) -> bool
+    requires { ⌜ Buffers s p (length (now slots)) ⌝ }
     ensures { λ v. ⌜ Settles s p (now (slots .entry)) v (now (slots .exit)) ⌝ }
 {
     let r = s.r;
     let mut j = 0;
     while j < r {
-        if !settle_row(s, p, j, slots, spare) {
+        if !settle_row(s, p, j, slots) {
             return false;
         }
         j += 1;
@@ -32,14 +30,15 @@ pub(crate) fn settle(s: Shape, p: Plan, slots: &mut [u8], spare: &mut [u8]) -> b
 }
 
 // Whether row j is one of those solved by, or is lost, or lacks nothing.
-fn settle_row(s: Shape, p: Plan, j: usize, slots: &mut [u8], spare: &mut [u8]) -> bool
-    requires { ⌜ Buffers s p (length (now slots)) × ((s .l ≤ length (now spare)) × (j < s .r)) ⌝ }
-    ensures { λ v. ⌜ RowSettles s p j (now (slots .entry)) v (now (slots .exit)) × (length (now (spare .exit)) ≡ length (now (spare .entry))) ⌝ }
+fn settle_row(s: Shape, p: Plan, j: usize, slots: &mut [u8]) -> bool
+    requires { ⌜ Buffers s p (length (now slots)) × (j < s .r) ⌝ }
+    ensures { λ v. ⌜ RowSettles s p j (now (slots .entry)) v (now (slots .exit)) ⌝ }
 {
     if solves(p, j) {
         return true;
     }
-    finish(s, p, j, slots, spare);
+    let l = s.l;
+    add_row(s, p, p.pivot, j, slots, j * l, 0, l);
     clean(s, p, j, slots)
 }
 
@@ -58,17 +57,6 @@ fn solves(p: Plan, j: usize) -> bool
     false
 }
 
-// To row j, which is none of those, row j of the errors.
-fn finish(s: Shape, p: Plan, j: usize, slots: &mut [u8], spare: &mut [u8])
-    requires { ⌜ Buffers s p (length (now slots)) × ((s .l ≤ length (now spare)) × ((j < s .r) × Other p j)) ⌝ }
-    ensures { λ _. ⌜ Gathered (powers j (less (p .pivot) (gone s p))) (j * s .l) (p .first * s .l) (p .step * s .l) (s .l) (now (slots .entry)) (now (slots .exit)) × (length (now (spare .exit)) ≡ length (now (spare .entry))) ⌝ }
-{
-    let l = s.l;
-    let count = p.count;
-    let w = row_weights(p, p.pivot, j);
-    gather(&w[..count], slots, j * l, p.first * l, p.step * l, l, spare);
-}
-
 // Whether row j is lost or zero.
 fn clean(s: Shape, p: Plan, j: usize, slots: &[u8]) -> bool
     requires { ⌜ (p .lost .count ≤ 3) × ((s .k ≤ 255) × ((j < 3) × (j * s .l + s .l ≤ length (now slots)))) ⌝ }
@@ -81,17 +69,4 @@ fn clean(s: Shape, p: Plan, j: usize, slots: &[u8]) -> bool
     let a = j * l;
     let e = a + l;
     all_zero(&slots[a..e])
-}
-
-// Whether every byte is zero.
-fn all_zero(a: &[u8]) -> bool
-    ensures { λ v. ⌜ Says v ((q : ℕ) → q < length (now (a .entry)) → getD (now (a .entry)) q 0 ≡ 0) ⌝ }
-{
-    let mut z = 0u8;
-    let mut q = 0;
-    while q < a.len() {
-        z = z | a[q];
-        q += 1;
-    }
-    z == 0
 }

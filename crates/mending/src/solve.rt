@@ -1,11 +1,11 @@
 // Sums of powers solved at the n places of slots together, in place: the first point is taken out of the sums, the others are solved,
 // and the first value is what the first sum lacks.
-use crate::lost::CAPACITY;
 use crate::mix::gather;
 use crate::mix::mix;
-use crate::scalars::inverse;
 use crate::scalars::product;
 use field::Gf;
+use lost::CAPACITY;
+use products::scale_all;
 ghost use mathlib.Core.Path.{_≡_};
 ghost use Prim.Native.Nat.{_≤_, _<_};
 ghost use lib.ListN.{length};
@@ -19,32 +19,31 @@ pub(crate) fn solve_slots(
     at: usize,
     d: usize,
     n: usize,
-    spare: &mut [u8],
 )
-    requires { ⌜ Spaced (length (now points)) at d n (length (now slots)) × ((length (now weights) ≡ length (now points)) × (n ≤ length (now spare))) ⌝ }
-    ensures { λ _. ⌜ Solved (now (points .entry)) (now (weights .entry)) at d n (now (slots .entry)) (now (slots .exit)) × (length (now (spare .exit)) ≡ length (now (spare .entry))) ⌝ }
+    requires { ⌜ Spaced (length (now points)) at d n (length (now slots)) × (length (now weights) ≡ length (now points)) ⌝ }
+    ensures { λ _. ⌜ Solved (now (points .entry)) (now (weights .entry)) at d n (now (slots .entry)) (now (slots .exit)) ⌝ }
 {
     let e = points.len();
     if e == 0 {
         return;
     }
-    clear(points[0], e, slots, at, d, n, spare);
+    clear(points[0], e, slots, at, d, n);
     let w = set_apart(points, weights);
     let f = e - 1;
-    solve_slots(&points[1..], &w[..f], slots, at + d, d, n, spare);
-    first_value(weights, slots, at, d, n, spare);
+    solve_slots(&points[1..], &w[..f], slots, at + d, d, n);
+    first_value(weights, slots, at, d, n);
 }
 
 // Each slot but the first plus c times the slot before.
-fn clear(c: u8, e: usize, slots: &mut [u8], at: usize, d: usize, n: usize, spare: &mut [u8])
-    requires { ⌜ Spaced e at d n (length (now slots)) × ((0 < e) × (n ≤ length (now spare))) ⌝ }
-    ensures { λ _. ⌜ Cleared c e at d n (now (slots .entry)) (now (slots .exit)) × (length (now (spare .exit)) ≡ length (now (spare .entry))) ⌝ }
+fn clear(c: u8, e: usize, slots: &mut [u8], at: usize, d: usize, n: usize)
+    requires { ⌜ Spaced e at d n (length (now slots)) × (0 < e) ⌝ }
+    ensures { λ _. ⌜ Cleared c e at d n (now (slots .entry)) (now (slots .exit)) ⌝ }
 {
     let mut u = e;
     while 1 < u {
         u = u - 1;
         let to = at + u * d;
-        mix(slots, to, to - d, n, c, spare);
+        mix(slots, to, to - d, n, c);
     }
 }
 
@@ -56,21 +55,23 @@ fn set_apart(points: &[u8], weights: &[u8]) -> [u8; CAPACITY]
     let mut w = [0u8; CAPACITY];
     let mut v = 1;
     while v < points.len() {
-        let d = Gf(points[v]).sum(Gf(points[0]));
-        let p = product(Gf(weights[v]), d);
-        w[v - 1] = p.0;
+        w[v - 1] = product(weights[v], points[v] ^ points[0]);
         v += 1;
     }
     w
 }
 
-// The first slot and the others by their weights, times the inverse of the first weight: what it is plus what it is times that and one.
-fn first_value(weights: &[u8], slots: &mut [u8], at: usize, d: usize, n: usize, spare: &mut [u8])
-    requires { ⌜ Spaced (length (now weights)) at d n (length (now slots)) × ((0 < length (now weights)) × (n ≤ length (now spare))) ⌝ }
-    ensures { λ _. ⌜ First (now (weights .entry)) at d n (now (slots .entry)) (now (slots .exit)) × (length (now (spare .exit)) ≡ length (now (spare .entry))) ⌝ }
+// The first slot and the others by their weights, times the inverse of the first weight.
+fn first_value(weights: &[u8], slots: &mut [u8], at: usize, d: usize, n: usize)
+    requires { ⌜ Spaced (length (now weights)) at d n (length (now slots)) × (0 < length (now weights)) ⌝ }
+    ensures { λ _. ⌜ First (now (weights .entry)) at d n (now (slots .entry)) (now (slots .exit)) ⌝ }
 {
-    gather(&weights[1..], slots, at, at + d, d, n, spare);
-    let i = inverse(Gf(weights[0]));
-    let c = i.sum(Gf(1));
-    mix(slots, at, at, n, c.0, spare);
+    gather(&weights[1..], slots, at, at + d, d, n);
+    let w = weights[0];
+    if w == 1 {
+        return;
+    }
+    let i = Gf(w).inverse();
+    let e = at + n;
+    scale_all(&mut slots[at..e], i.0);
 }

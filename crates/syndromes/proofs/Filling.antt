@@ -1,48 +1,56 @@
 -- What is filled in are the syndromes: of a plain stripe each row lacks what `Apart` says, since its parity is rows; of any stripe
--- the encoding of its data and its parity columns add up to them.
+-- the encoding of its data and its parity columns add up to them, and each row times the inverse of its weight is the row over it.
 use mathlib.Core.Path.{_≡_, refl, sym, ap, ap₂, _∙_, subst}
-use mathlib.Core.List.{List}
-use mathlib.Core.Logic.{_⊎_, inl, inr}
-use Prim.Native.Nat.{ℕ, _+_, _-_, _*_, _<_}
+use mathlib.Core.List.{List, map}
+use mathlib.Core.Logic.{_⊎_, inl, inr, ⊎-elim}
+use Prim.Native.Nat.{ℕ, zero, suc, _+_, _-_, _*_, _<_, _≤_}
+use native.Mathlib.Nat.{mul-le-mul-right, add-mul as ℕ-add-mul}
 use native.Mathlib.Omega.{arith}
-use lib.ListN.{length, getD, take, length-drop}
+use lib.ListN.{length, getD, take, drop, length-drop, length-map}
 use lib.Seq.{take-all}
-use Rattle.field.specs.Field.{_⊕_, _⊗_, gpow}
+use borrow.Rule.Slice.PartMut.{putMid}
+use Rattle.field.specs.Field.{_⊕_, _⊗_, gpow, inverseOf}
 use Rattle.field.specs.Bytes.{Bytes}
-use Rattle.field.proofs.Xor.{add-comm}
-use Rattle.field.proofs.Mul.{one-mul, gpow-zero}
+use Rattle.field.proofs.Xor.{add-comm, add-zero}
+use Rattle.field.proofs.Mul.{mul-assoc, one-mul, mul-inverse, gpow-zero, gpow-pos, gpow-lt}
 use Rattle.lanes.specs.Lanes.{onto}
 use Rattle.lanes.proofs.Onto.{onto-at, onto-length}
+use Rattle.lanes.proofs.Within.{map-at}
+use Rattle.lanes.proofs.Parts.{part-length, part-at, back-length, back-inside, back-outside}
 use Rattle.stripe.specs.declared.Shape.{Shape}
 use Rattle.stripe.specs.Shape.{shapeRefusal, dataLength, parityLength, stripeLength}
 use Rattle.stripe.specs.Stripe.{parityByte, parity, dataOf, parityOf}
 use Rattle.stripe.proofs.Allowed.{allowed}
 use Rattle.stripe.proofs.Lent.{lent-both}
-use Rattle.stripe.proofs.Places.{place-lt, parity-at, parity-length, plain-parity, row-at-stripe, parity-of-at, parity-of-length, data-of-length}
+use Rattle.stripe.proofs.Places.{below-or-from, place-lt, parity-at, parity-length, plain-parity, row-at-stripe, parity-of-at, parity-of-length, data-of-length}
 use Rattle.coding.specs.Encode.{encoded}
 use Rattle.coding.proofs.Encoded.{encoded-done}
 use Rattle.syndromes.specs.Apart.{Apart, Parted}
-use Rattle.syndromes.specs.Syndromes.{Lent, Syndromes}
+use Rattle.syndromes.specs.Syndromes.{Lent, Syndromes, InBlocks, Divided}
 
 -- ---- a plain stripe
 
-pub parted : (s : Shape) (x : ℕ) (xs : List ℕ) (p : ℕ) → Lent s x (length xs) p → s .t ≡ 0 → Parted xs (s .k) (s .l) (s .r) x p
-parted s x xs p h plain =
+-- a column that is not the first is set apart in a plain stripe, and is one of its data columns
+pub set-apart : (s : Shape) (x d p : ℕ) → Lent s x d p → 0 < x → (s .t ≡ 0) × (x < s .k)
+set-apart s x d p h later = go (h .apart)
+  where
+    go : (x ≡ 0) ⊎ ((s .t ≡ 0) × (x < s .k)) → (s .t ≡ 0) × (x < s .k)
+    go (inl e) = absurd (omega (arith, later, e))
+    go (inr e) = e
+
+pub parted : (s : Shape) (x : ℕ) (xs : List ℕ) (p : ℕ) → Lent s x (length xs) p → InBlocks s x → Parted xs (s .k) (s .l) (s .r) x p
+parted s x xs p h b =
     let a = allowed s (h .shape) in
     record {
       long = h .long;
       room = h .room;
-      some = a .parity-some;
+      some = b .rows;
       most = a .parity-most;
-      within = within (a .data-some) (h .apart);
+      within = set-apart s x _ _ h (b .later) .1;
       wide = a .data-most;
-      length-some = a .length-some;
+      length-some = b .long;
       length-most = a .length-most;
     }
-  where
-    within : 0 < s .k → (x ≡ 0) ⊎ ((s .t ≡ 0) × (x < s .k)) → x < s .k
-    within f (inl e) = omega arith
-    within f (inr e) = e .1
 
 pub plain-lacks : (s : Shape) (x : ℕ) (xs ys : List ℕ) → shapeRefusal s ≡ 0 → s .t ≡ 0 → Bytes ys → Apart xs (s .k) (s .l) (s .r) x ys → Syndromes s x xs ys
 plain-lacks s x xs ys h plain b a =
@@ -86,13 +94,87 @@ whole-lacks s xs os es ys h b ee ey = record { bytes = b; long = ap length ey �
         ∙ ap₂ _⊕_ (ap (λ (l : List ℕ). getD l (j * s .l + y) 0) is ∙ parity-at s (dataOf s xs) j y hj hy) (parity-of-at s xs j y)
         ∙ add-comm _ _
 
--- column 0 is the one that may be set apart in a prepared stripe
-pub prepared-first : (s : Shape) (x d p : ℕ) → Lent s x d p → (s .t ≡ 0 → ⊥) → x ≡ 0
-prepared-first s x d p h n = go (h .apart)
-  where
-    go : (x ≡ 0) ⊎ ((s .t ≡ 0) × (x < s .k)) → x ≡ 0
-    go (inl e) = e
-    go (inr e) = absurd (n (e .0))
-
 pub first-lent : (s : Shape) (x d p : ℕ) → Lent s x d p → Lent s 0 d p
 first-lent s x d p h = record { shape = h .shape; long = h .long; room = h .room; apart = inl refl }
+
+-- ---- rows over their weights
+
+-- the rows before e are over their weights of column x, and the others as they were
+pub record DividedTo (l r x e : ℕ) (ys zs : List ℕ) : Type 0 where
+  pub long : length zs ≡ length ys
+  pub done : (j y : ℕ) → j < e → y < l → gpow (j * x) ⊗ getD zs (j * l + y) 0 ≡ getD ys (j * l + y) 0
+  pub left : (j y : ℕ) → e ≤ j → y < l → getD zs (j * l + y) 0 ≡ getD ys (j * l + y) 0
+
+pub divided-0 : (l r x : ℕ) (ys : List ℕ) → x ≡ 0 → Bytes ys → Divided l r x ys ys
+divided-0 l r x ys e b =
+    record { long = refl; at = λ j y hj hy. ap (λ (z : ℕ). gpow (j * z) ⊗ getD ys (j * l + y) 0) e ∙ weight-one j _ (b (j * l + y)) }
+
+pub divide-start : (l r x : ℕ) (ys : List ℕ) → Bytes ys → DividedTo l r x 1 ys ys
+divide-start l r x ys b = record { long = refl; done = done; left = λ j y h k. refl }
+  where
+    done : (j y : ℕ) → j < 1 → y < l → gpow (j * x) ⊗ getD ys (j * l + y) 0 ≡ getD ys (j * l + y) 0
+    done j y h k =
+        let first : j ≡ 0 = omega arith in
+        let none : 0 * x ≡ 0 * 0 = omega arith in
+        ap (λ (i : ℕ). gpow (i * x) ⊗ getD ys (j * l + y) 0) first ∙ ap (λ (w : ℕ). gpow w ⊗ getD ys (j * l + y) 0) none
+        ∙ weight-one 0 _ (b (j * l + y))
+
+over : (w z : ℕ) → 0 < w → w < 256 → z < 256 → w ⊗ (inverseOf w ⊗ z) ≡ z
+over w z p h k = sym (mul-assoc w (inverseOf w) z) ∙ ap (λ (y : ℕ). y ⊗ z) (mul-inverse w p h) ∙ one-mul z k
+
+module _ (l r x j c : ℕ) (ys zs ws : List ℕ) (h : DividedTo l r x j ys zs) (bytes : Bytes zs) (fits : j * l + l ≤ length zs)
+    (weight : c ≡ inverseOf (gpow (j * x)))
+    (is : ws ≡ map (λ (x : ℕ). c ⊗ x) (take (j * l + l - j * l) (drop (j * l) zs))) where
+  ws-long : length ws ≡ l
+  ws-long = ap length is ∙ length-map (take (j * l + l - j * l) (drop (j * l) zs)) _ ∙ part-length zs (j * l) l fits
+
+  ws-at : (q : ℕ) → q < l → getD ws q 0 ≡ c ⊗ getD zs (j * l + q) 0
+  ws-at q k =
+      ap (λ (u : List ℕ). getD u q 0) is ∙ map-at _ (take (j * l + l - j * l) (drop (j * l) zs)) q (omega (arith, k, part-length zs (j * l) l fits))
+      ∙ ap (λ (u : ℕ). c ⊗ u) (part-at zs (j * l) l q k)
+
+  pub divide-turn : DividedTo l r x (j + 1) ys (putMid (j * l) (j * l + l - j * l) zs ws)
+  divide-turn = record { long = back-length zs ws (j * l) l ws-long fits ∙ h .long; done = done; left = left }
+    where
+      done : (i y : ℕ) → i < j + 1 → y < l
+          → gpow (i * x) ⊗ getD (putMid (j * l) (j * l + l - j * l) zs ws) (i * l + y) 0 ≡ getD ys (i * l + y) 0
+      done i y less k = ⊎-elim old new (below-or-from i j)
+        where
+          old : i < j → gpow (i * x) ⊗ getD (putMid (j * l) (j * l + l - j * l) zs ws) (i * l + y) 0 ≡ getD ys (i * l + y) 0
+          old e = ap (λ (z : ℕ). gpow (i * x) ⊗ z) (back-outside zs ws (j * l) l ws-long fits (i * l + y) (inl (place-lt e k))) ∙ h .done i y e k
+
+          new : j ≤ i → gpow (i * x) ⊗ getD (putMid (j * l) (j * l + l - j * l) zs ws) (i * l + y) 0 ≡ getD ys (i * l + y) 0
+          new e =
+              subst (λ (m : ℕ). gpow (m * x) ⊗ getD (putMid (j * l) (j * l + l - j * l) zs ws) (m * l + y) 0 ≡ getD ys (m * l + y) 0)
+              (omega (arith, less, e))
+              (ap (λ (z : ℕ). gpow (j * x) ⊗ z) (back-inside zs ws (j * l) l ws-long fits y k ∙ ws-at y k ∙ ap (λ (w : ℕ). w ⊗ getD zs (j * l + y) 0) weight)
+              ∙ over (gpow (j * x)) (getD zs (j * l + y) 0) (gpow-pos (j * x)) (gpow-lt (j * x)) (bytes (j * l + y))
+              ∙ h .left j y (omega arith) k)
+
+      left : (i y : ℕ) → j + 1 ≤ i → y < l → getD (putMid (j * l) (j * l + l - j * l) zs ws) (i * l + y) 0 ≡ getD ys (i * l + y) 0
+      left i y e k =
+          back-outside zs ws (j * l) l ws-long fits (i * l + y) (inr (omega (arith, mul-le-mul-right l e, ℕ-add-mul j 1 l)))
+          ∙ h .left i y (omega (arith, e)) k
+
+pub divide-done : (l r x j : ℕ) (ys zs : List ℕ) → r ≤ j → DividedTo l r x j ys zs → Divided l r x ys zs
+divide-done l r x j ys zs e h = record { long = h .long; at = λ i y less k. h .done i y (omega (arith, e, less)) k }
+
+-- the exponents of the weights are small
+pub weights-small : (s : Shape) (x d p : ℕ) → Lent s x d p → s .r * x ≤ 765
+weights-small s x d p h =
+    let a = allowed s (h .shape) in
+    let few : x ≤ 255 = go (h .apart) in
+    omega (arith, mul-le-mul-right x (a .parity-most), few)
+  where
+    go : (x ≡ 0) ⊎ ((s .t ≡ 0) × (x < s .k)) → x ≤ 255
+    go (inl e) = omega arith
+    go (inr e) = omega (arith, e .1, allowed s (h .shape) .data-most)
+
+-- the syndromes, each row over its weight of column x
+pub divided-lacks : (s : Shape) (x : ℕ) (xs ys zs : List ℕ) → Syndromes s 0 xs ys → Bytes zs → Divided (s .l) (s .r) x ys zs → Syndromes s x xs zs
+divided-lacks s x xs ys zs h b d =
+    record {
+      bytes = b;
+      long = d .long ∙ h .long;
+      at = λ j y hj hy. d .at j y hj hy ∙ sym (weight-one j _ (h .bytes (j * s .l + y))) ∙ h .at j y hj hy;
+    }

@@ -106,9 +106,9 @@ one-more j i c m p r f back e =
 -- ---- the columns before x, one after another
 
 -- a column before x ends within the stripe, and the places after it begin there
-pub column-within : (xs : List ℕ) (k l r x from n i o : ℕ) → Places xs k l r x from n → 1 ≤ r → i < x → o ≡ i * l + from
-    → (o + n ≤ length xs) × (o + l ≤ length xs)
-column-within xs k l r x from n i o h some less e =
+pub column-within : (xs : List ℕ) (k l r x from i o : ℕ) → Places xs k l r x from → 1 ≤ r → i < x → o ≡ i * l + from
+    → (o + 64 ≤ length xs) × (o + l ≤ length xs)
+column-within xs k l r x from i o h some less e =
     let c : (suc i + 1) * l ≤ (k + r) * l = mul-le-mul-right l (omega (arith, h .within)) in
     (omega (arith, h .long, h .fits, c), omega (arith, h .long, h .fits, c))
 
@@ -178,6 +178,9 @@ plus-block xs b ys at n fits long is =
     ys-long : length ys ≡ n
     ys-long = ap length is ∙ onto-length (λ (x y : ℕ). x ⊕ y) _ b ∙ part-length xs at n fits
 
+pub plus-by : (xs : List ℕ) (at n m : ℕ) (b ys : List ℕ) → n ≡ m → Plus xs at m b ys → Plus xs at n b ys
+plus-by xs at n m b ys same h = subst (λ (z : ℕ). Plus xs at z b ys) (sym same) h
+
 turned : (u p r : ℕ) → u ⊕ (p ⊕ r) ≡ p ⊕ (r ⊕ u)
 turned u p r = simp sums
 
@@ -224,13 +227,6 @@ module _ (xs : List ℕ) (k l x from n : ℕ) (fits : from + n ≤ l) (within : 
         done = λ p less lp. ap (λ (z : ℕ). gpow (j * x) ⊗ z) (beside i j at p ts b us d a lp plus) ∙ h .done p less lp;
         left = λ p past lp. beside i j at p ts b us d a lp plus ∙ h .left p past lp;
       }
-
-  pub added-1 : (ts b us : List ℕ) → BelowIn xs k l x from n 0 b → Plus ts from n b us → RowsTo xs k l 1 x from ts → RowsTo xs k l 1 x (from + n) us
-  added-1 ts b us r0 plus0 h = record { long = plus0 .long ∙ h .long; each = each }
-    where
-      each : (j : ℕ) → j < 1 → RowTo xs k l x (from + n) j us
-      each zero less = own 0 from ts b us (omega arith) plus0 r0 (h .each 0 (lit< tt))
-      each (suc j) less = absurd (not-suc-le-zero (le-of-suc-le-suc less))
 
   module _ (ts us b c : List ℕ) (r0 : BelowIn xs k l x from n 0 b) (r1 : BelowIn xs k l x from n 1 c) (plus0 : Plus ts from n b us) where
     pub added-2 : (vs : List ℕ) → Plus us (l + from) n c vs → RowsTo xs k l 2 x from ts → RowsTo xs k l 2 x (from + n) vs

@@ -17,19 +17,18 @@ pub record Apart (xs : List ℕ) (k l r x : ℕ) (ts : List ℕ) : Type 0 where
 pub record Parted (xs : List ℕ) (k l r x n : ℕ) : Type 0 where
   pub long : length xs ≡ (k + r) * l
   pub room : n ≡ r * l
-  pub some : 1 ≤ r
+  pub some : 2 ≤ r
   pub most : r ≤ 3
   pub within : x < k
   pub wide : k ≤ 255
-  pub length-some : 1 ≤ l
+  pub length-some : 64 ≤ l
   pub length-most : l ≤ 4096
 
--- up to 64 places from `from` on, of a stripe that has r parity columns at least
-pub record Places (xs : List ℕ) (k l r x from n : ℕ) : Type 0 where
+-- 64 places from `from` on, of a stripe that has r parity columns at least
+pub record Places (xs : List ℕ) (k l r x from : ℕ) : Type 0 where
   pub long : (k + r) * l ≤ length xs
   pub within : x ≤ k
-  pub few : n ≤ 64
-  pub fits : from + n ≤ l
+  pub fits : from + 64 ≤ l
 
 -- the first n bytes of b, times g^(j*x), are parity column j and row j of the x first columns, at the places from `from` on
 abbrev pub BelowIn : List ℕ → ℕ → ℕ → ℕ → ℕ → ℕ → ℕ → List ℕ → Type 0

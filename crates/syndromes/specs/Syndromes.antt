@@ -1,5 +1,5 @@
 -- Syndromes: the parity as it lies and the parity of the data as they lie, added; over the weights of one column.
-use Prim.Native.Nat.{ℕ, _+_, _*_, _<_}
+use Prim.Native.Nat.{ℕ, _+_, _*_, _<_, _≤_}
 use mathlib.Core.Path.{_≡_}
 use mathlib.Core.Bool.{Bool, true, false}
 use mathlib.Core.Logic.{_⊎_}
@@ -34,3 +34,14 @@ pub record Filled (s : Shape) (x : ℕ) (xs ys ys′ : List ℕ) : Type 0 where
 pub record Says (v : Bool) (P : Type 0) : Type 0 where
   pub so : v ≡ true → P
   pub not-so : v ≡ false → P → ⊥
+
+-- the rows may be formed in blocks of 64 places, and not all weights of column x are 1
+pub record InBlocks (s : Shape) (x : ℕ) : Type 0 where
+  pub later : 0 < x
+  pub rows : 2 ≤ s .r
+  pub long : 64 ≤ s .l
+
+-- each of the r rows of l bytes is over its weight of column x
+pub record Divided (l r x : ℕ) (ys zs : List ℕ) : Type 0 where
+  pub long : length zs ≡ length ys
+  pub at : (j y : ℕ) → j < r → y < l → gpow (j * x) ⊗ getD zs (j * l + y) 0 ≡ getD ys (j * l + y) 0

@@ -1,12 +1,13 @@
 // What the rows lack, with one column x set apart: each row over the weight that column x has in it. So no product is needed.
 // The columns from x on are an encoding of their own; the parity and the columns before x come by Horner's rule upwards, the rows
-// of a block of up to 64 places together, by halves and quarters. Each count of rows has its own functions, and whole blocks are
-// asked for by the literal 64: so the compiler keeps a block in registers.
+// of a block of 64 places together, by halves and quarters. Two rows and three have functions of their own, and a block has the literal
+// length 64: so the compiler keeps it in registers. The first block of a column adds only as many places as
+// leave whole blocks.
 use coding::encode::encode;
 use lanes::add;
 use lanes::copy;
-use lanes::halve_add;
-use lanes::quarter_add;
+use steps::halve_add;
+use steps::quarter_add;
 use stripe::Shape;
 ghost use mathlib.Core.Path.{_≡_};
 ghost use Prim.Native.Nat.{ℕ, _+_, _*_, _≤_, _<_};
@@ -27,13 +28,9 @@ pub(crate) fn fill_apart(stripe: &[u8], k: usize, l: usize, r: usize, x: usize, 
 
 // To the rows of the columns from x on, the parity and the columns before x.
 fn add_below(stripe: &[u8], k: usize, l: usize, r: usize, x: usize, out: &mut [u8])
-    requires { ⌜ (length (now stripe) ≡ (k + r) * l) × ((x ≤ k) × ((1 ≤ r) × ((r ≤ 3) × RowsTo (now stripe) k l r x 0 (now out)))) ⌝ }
+    requires { ⌜ (length (now stripe) ≡ (k + r) * l) × ((x ≤ k) × ((2 ≤ r) × ((r ≤ 3) × ((64 ≤ l) × RowsTo (now stripe) k l r x 0 (now out))))) ⌝ }
     ensures { λ _. ⌜ RowsTo (now (stripe .entry)) k l r x l (now (out .exit)) ⌝ }
 {
-    if r < 2 {
-        add1(stripe, k, l, x, out);
-        return;
-    }
     if r < 3 {
         add2(stripe, k, l, x, out);
         return;
@@ -41,68 +38,38 @@ fn add_below(stripe: &[u8], k: usize, l: usize, r: usize, x: usize, out: &mut [u
     add3(stripe, k, l, x, out);
 }
 
-// The same of row 0 alone.
-fn add1(stripe: &[u8], k: usize, l: usize, x: usize, out: &mut [u8])
-    requires { ⌜ (length (now stripe) ≡ (k + 1) * l) × ((x ≤ k) × RowsTo (now stripe) k l 1 x 0 (now out)) ⌝ }
-    ensures { λ _. ⌜ RowsTo (now (stripe .entry)) k l 1 x l (now (out .exit)) ⌝ }
-{
-    let mut b = 0;
-    while 64 <= l - b {
-        add_block1(stripe, k, l, x, b, 64, out);
-        b += 64;
-    }
-    if b < l {
-        add_block1(stripe, k, l, x, b, l - b, out);
-    }
-}
-
 // The same of rows 0 and 1.
 fn add2(stripe: &[u8], k: usize, l: usize, x: usize, out: &mut [u8])
-    requires { ⌜ (length (now stripe) ≡ (k + 2) * l) × ((x ≤ k) × RowsTo (now stripe) k l 2 x 0 (now out)) ⌝ }
+    requires { ⌜ (length (now stripe) ≡ (k + 2) * l) × ((x ≤ k) × ((64 ≤ l) × RowsTo (now stripe) k l 2 x 0 (now out))) ⌝ }
     ensures { λ _. ⌜ RowsTo (now (stripe .entry)) k l 2 x l (now (out .exit)) ⌝ }
 {
-    let mut b = 0;
-    while 64 <= l - b {
+    let mut b = l % 64;
+    add_block2(stripe, k, l, x, 0, b, out);
+    while b < l {
         add_block2(stripe, k, l, x, b, 64, out);
         b += 64;
     }
-    if b < l {
-        add_block2(stripe, k, l, x, b, l - b, out);
-    }
 }
 
-// The same of rows 0, 1 and 2. The places after the last whole block are left to `add_last3`: with a second call of `add_block3` the
-// compiler would not keep a whole block in registers.
+// The same of rows 0, 1 and 2.
 fn add3(stripe: &[u8], k: usize, l: usize, x: usize, out: &mut [u8])
-    requires { ⌜ (length (now stripe) ≡ (k + 3) * l) × ((x ≤ k) × RowsTo (now stripe) k l 3 x 0 (now out)) ⌝ }
+    requires { ⌜ (length (now stripe) ≡ (k + 3) * l) × ((x ≤ k) × ((64 ≤ l) × RowsTo (now stripe) k l 3 x 0 (now out))) ⌝ }
     ensures { λ _. ⌜ RowsTo (now (stripe .entry)) k l 3 x l (now (out .exit)) ⌝ }
 {
-    let mut b = 0;
-    while 64 <= l - b {
+    let mut b = l % 64;
+    add_block3(stripe, k, l, x, 0, b, out);
+    while b < l {
         add_block3(stripe, k, l, x, b, 64, out);
         b += 64;
     }
-    if b < l {
-        add_last3(stripe, k, l, x, b, l - b, out);
-    }
-}
-
-// Row 0 at the n places from `from` on, where those before are there.
-fn add_block1(stripe: &[u8], k: usize, l: usize, x: usize, from: usize, n: usize, out: &mut [u8])
-    requires { ⌜ Places (now stripe) k l 1 x from n × RowsTo (now stripe) k l 1 x from (now out) ⌝ }
-    ensures { λ _. ⌜ RowsTo (now (stripe .entry)) k l 1 x (from + n) (now (out .exit)) ⌝ }
-{
-    let v = below1(stripe, k, l, x, from, n);
-    let b0 = v.row0;
-    plus(out, from, n, &b0);
 }
 
 // Rows 0 and 1 at the n places from `from` on, where those before are there.
 fn add_block2(stripe: &[u8], k: usize, l: usize, x: usize, from: usize, n: usize, out: &mut [u8])
-    requires { ⌜ Places (now stripe) k l 2 x from n × RowsTo (now stripe) k l 2 x from (now out) ⌝ }
+    requires { ⌜ Places (now stripe) k l 2 x from × ((n ≤ 64) × RowsTo (now stripe) k l 2 x from (now out)) ⌝ }
     ensures { λ _. ⌜ RowsTo (now (stripe .entry)) k l 2 x (from + n) (now (out .exit)) ⌝ }
 {
-    let v = below2(stripe, k, l, x, from, n);
+    let v = below2(stripe, k, l, x, from);
     let b0 = v.row0;
     plus(out, from, n, &b0);
     let b1 = v.row1;
@@ -111,10 +78,10 @@ fn add_block2(stripe: &[u8], k: usize, l: usize, x: usize, from: usize, n: usize
 
 // Rows 0, 1 and 2 at the n places from `from` on, where those before are there.
 fn add_block3(stripe: &[u8], k: usize, l: usize, x: usize, from: usize, n: usize, out: &mut [u8])
-    requires { ⌜ Places (now stripe) k l 3 x from n × RowsTo (now stripe) k l 3 x from (now out) ⌝ }
+    requires { ⌜ Places (now stripe) k l 3 x from × ((n ≤ 64) × RowsTo (now stripe) k l 3 x from (now out)) ⌝ }
     ensures { λ _. ⌜ RowsTo (now (stripe .entry)) k l 3 x (from + n) (now (out .exit)) ⌝ }
 {
-    let v = below3(stripe, k, l, x, from, n);
+    let v = below3(stripe, k, l, x, from);
     let b0 = v.row0;
     plus(out, from, n, &b0);
     let b1 = v.row1;
@@ -123,60 +90,25 @@ fn add_block3(stripe: &[u8], k: usize, l: usize, x: usize, from: usize, n: usize
     plus(out, l + l + from, n, &b2);
 }
 
-// The same, row 2 after the others.
-fn add_last3(stripe: &[u8], k: usize, l: usize, x: usize, from: usize, n: usize, out: &mut [u8])
-    requires { ⌜ Places (now stripe) k l 3 x from n × RowsTo (now stripe) k l 3 x from (now out) ⌝ }
-    ensures { λ _. ⌜ RowsTo (now (stripe .entry)) k l 3 x (from + n) (now (out .exit)) ⌝ }
-{
-    let v = below2(stripe, k, l, x, from, n);
-    let b0 = v.row0;
-    plus(out, from, n, &b0);
-    let b1 = v.row1;
-    plus(out, l + from, n, &b1);
-    let b2 = row2_below(stripe, k, l, x, from, n);
-    plus(out, l + l + from, n, &b2);
-}
-
-// Rows 0, 1 and 2 of a block, or the first of them.
+// Rows 0, 1 and 2 of a block, or the first two of them.
 struct Rows {
     row0: [u8; 64],
     row1: [u8; 64],
     row2: [u8; 64],
 }
 
-// Of row 0 the parity and the columns before x, at the n places from `from` on.
-fn below1(stripe: &[u8], k: usize, l: usize, x: usize, from: usize, n: usize) -> Rows
-    requires { ⌜ Places (now stripe) k l 1 x from n ⌝ }
-    ensures { λ v. ⌜ BelowIn (now (stripe .entry)) k l x from n 0 (v .row0) ⌝ }
+// Of rows 0 and 1 the parity and the columns before x, at the 64 places from `from` on.
+fn below2(stripe: &[u8], k: usize, l: usize, x: usize, from: usize) -> Rows
+    requires { ⌜ Places (now stripe) k l 2 x from ⌝ }
+    ensures { λ v. ⌜ BelowIn (now (stripe .entry)) k l x from 64 0 (v .row0) × BelowIn (now (stripe .entry)) k l x from 64 1 (v .row1) ⌝ }
 {
     let p = k * l + from;
-    let mut row0 = bytes_at(stripe, p, n);
+    let mut row0 = bytes_at(stripe, p);
+    let mut row1 = bytes_at(stripe, p + l);
     let mut i = 0;
     let mut o = from;
     while i < x {
-        let e = o + n;
-        let d = &stripe[o..e];
-        add(&mut row0, d);
-        i += 1;
-        o += l;
-    }
-    let row1 = [0u8; 64];
-    let row2 = [0u8; 64];
-    Rows { row0, row1, row2 }
-}
-
-// Of rows 0 and 1 the parity and the columns before x, at the n places from `from` on.
-fn below2(stripe: &[u8], k: usize, l: usize, x: usize, from: usize, n: usize) -> Rows
-    requires { ⌜ Places (now stripe) k l 2 x from n ⌝ }
-    ensures { λ v. ⌜ BelowIn (now (stripe .entry)) k l x from n 0 (v .row0) × BelowIn (now (stripe .entry)) k l x from n 1 (v .row1) ⌝ }
-{
-    let p = k * l + from;
-    let mut row0 = bytes_at(stripe, p, n);
-    let mut row1 = bytes_at(stripe, p + l, n);
-    let mut i = 0;
-    let mut o = from;
-    while i < x {
-        let e = o + n;
+        let e = o + 64;
         let d = &stripe[o..e];
         add(&mut row0, d);
         halve_add(&mut row1, d);
@@ -187,19 +119,19 @@ fn below2(stripe: &[u8], k: usize, l: usize, x: usize, from: usize, n: usize) ->
     Rows { row0, row1, row2 }
 }
 
-// Of rows 0, 1 and 2 the parity and the columns before x, at the n places from `from` on.
-fn below3(stripe: &[u8], k: usize, l: usize, x: usize, from: usize, n: usize) -> Rows
-    requires { ⌜ Places (now stripe) k l 3 x from n ⌝ }
-    ensures { λ v. ⌜ BelowIn (now (stripe .entry)) k l x from n 0 (v .row0) × (BelowIn (now (stripe .entry)) k l x from n 1 (v .row1) × BelowIn (now (stripe .entry)) k l x from n 2 (v .row2)) ⌝ }
+// Of rows 0, 1 and 2 the parity and the columns before x, at the 64 places from `from` on.
+fn below3(stripe: &[u8], k: usize, l: usize, x: usize, from: usize) -> Rows
+    requires { ⌜ Places (now stripe) k l 3 x from ⌝ }
+    ensures { λ v. ⌜ BelowIn (now (stripe .entry)) k l x from 64 0 (v .row0) × (BelowIn (now (stripe .entry)) k l x from 64 1 (v .row1) × BelowIn (now (stripe .entry)) k l x from 64 2 (v .row2)) ⌝ }
 {
     let p = k * l + from;
-    let mut row0 = bytes_at(stripe, p, n);
-    let mut row1 = bytes_at(stripe, p + l, n);
-    let mut row2 = bytes_at(stripe, p + l + l, n);
+    let mut row0 = bytes_at(stripe, p);
+    let mut row1 = bytes_at(stripe, p + l);
+    let mut row2 = bytes_at(stripe, p + l + l);
     let mut i = 0;
     let mut o = from;
     while i < x {
-        let e = o + n;
+        let e = o + 64;
         let d = &stripe[o..e];
         add(&mut row0, d);
         halve_add(&mut row1, d);
@@ -210,32 +142,13 @@ fn below3(stripe: &[u8], k: usize, l: usize, x: usize, from: usize, n: usize) ->
     Rows { row0, row1, row2 }
 }
 
-// Of row 2 alone the parity and the columns before x, at the n places from `from` on.
-fn row2_below(stripe: &[u8], k: usize, l: usize, x: usize, from: usize, n: usize) -> [u8; 64]
-    requires { ⌜ Places (now stripe) k l 3 x from n ⌝ }
-    ensures { λ v. ⌜ BelowIn (now (stripe .entry)) k l x from n 2 v ⌝ }
-{
-    let p = k * l + from;
-    let mut a = bytes_at(stripe, p + l + l, n);
-    let mut i = 0;
-    let mut o = from;
-    while i < x {
-        let e = o + n;
-        let d = &stripe[o..e];
-        quarter_add(&mut a, d);
-        i += 1;
-        o += l;
-    }
-    a
-}
-
-// The n bytes from `at` on.
-fn bytes_at(stripe: &[u8], at: usize, n: usize) -> [u8; 64]
-    requires { ⌜ (at + n ≤ length (now stripe)) × (n ≤ 64) ⌝ }
-    ensures { λ v. ⌜ (length v ≡ 64) × ((q : ℕ) → q < n → getD v q 0 ≡ getD (now (stripe .entry)) (at + q) 0) ⌝ }
+// The 64 bytes from `at` on.
+fn bytes_at(stripe: &[u8], at: usize) -> [u8; 64]
+    requires { ⌜ at + 64 ≤ length (now stripe) ⌝ }
+    ensures { λ v. ⌜ (length v ≡ 64) × ((q : ℕ) → q < 64 → getD v q 0 ≡ getD (now (stripe .entry)) (at + q) 0) ⌝ }
 {
     let mut a = [0u8; 64];
-    let e = at + n;
+    let e = at + 64;
     copy(&mut a, &stripe[at..e]);
     a
 }
@@ -245,6 +158,11 @@ fn plus(out: &mut [u8], at: usize, n: usize, b: &[u8; 64])
     requires { ⌜ (at + n ≤ length (now out)) × (n ≤ 64) ⌝ }
     ensures { λ _. ⌜ Plus (now (out .entry)) at n (now (b .entry)) (now (out .exit)) ⌝ }
 {
-    let e = at + n;
+    if n < 64 {
+        let e = at + n;
+        add(&mut out[at..e], b);
+        return;
+    }
+    let e = at + 64;
     add(&mut out[at..e], b);
 }

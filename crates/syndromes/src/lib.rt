@@ -4,11 +4,15 @@ mod apart;
 
 use crate::apart::fill_apart;
 use coding::encode::encode;
+use field::Gf;
 use lanes::add;
+use products::scale_all;
 use stripe::Shape;
 ghost use mathlib.Core.Path.{_≡_};
+ghost use mathlib.Core.Bool.{true};
+ghost use Prim.Native.Nat.{_*_, _≤_};
 ghost use lib.ListN.{length};
-ghost use Rattle.syndromes.specs.Syndromes.{Lent, Syndromes, Filled, Says};
+ghost use Rattle.syndromes.specs.Syndromes.{Lent, Syndromes, Filled, Says, InBlocks, Divided};
 
 // What each row lacks of the parity as it lies, over the weight that column x has in it; nothing is written where the stripe, the
 // buffer or x is not as `Lent` says.
@@ -18,8 +22,8 @@ pub fn syndromes(s: Shape, x: usize, stripe: &[u8], out: &mut [u8])
     if !lent(s, x, stripe.len(), out.len()) {
         return;
     }
-    if s.t != 0 {
-        fill_whole(s, stripe, out);
+    if !in_blocks(s, x) {
+        fill_whole(s, x, stripe, out);
         return;
     }
     let k = s.k;
@@ -53,14 +57,49 @@ fn lent(s: Shape, x: usize, d: usize, p: usize) -> bool
     x < k
 }
 
-// What each row lacks of the parity as it lies: the parity of the data as they lie, and the parity columns added.
-fn fill_whole(s: Shape, stripe: &[u8], out: &mut [u8])
-    requires { ⌜ Lent s 0 (length (now stripe)) (length (now out)) ⌝ }
-    ensures { λ _. ⌜ Syndromes s 0 (now (stripe .entry)) (now (out .exit)) ⌝ }
+// Whether the rows are to be formed in blocks: where a weight of column x may be other than 1, and a column has room for a block.
+fn in_blocks(s: Shape, x: usize) -> bool
+    ensures { λ v. ⌜ (v ≡ true → InBlocks s x) ⌝ }
+{
+    if x == 0 {
+        return false;
+    }
+    if s.r < 2 {
+        return false;
+    }
+    64 <= s.l
+}
+
+// What each row lacks of the parity as it lies: the parity of the data as they lie, and the parity columns added; over the weights of
+// column x.
+fn fill_whole(s: Shape, x: usize, stripe: &[u8], out: &mut [u8])
+    requires { ⌜ Lent s x (length (now stripe)) (length (now out)) ⌝ }
+    ensures { λ _. ⌜ Syndromes s x (now (stripe .entry)) (now (out .exit)) ⌝ }
 {
     let k = s.k;
     let l = s.l;
     let d = k * l;
     encode(s, &stripe[..d], out);
     add(out, &stripe[d..]);
+    divide(s, x, out);
+}
+
+// Each row over its weight of column x, by a product.
+fn divide(s: Shape, x: usize, out: &mut [u8])
+    requires { ⌜ (length (now out) ≡ s .r * s .l) × (s .r * x ≤ 765) ⌝ }
+    ensures { λ _. ⌜ Divided (s .l) (s .r) x (now (out .entry)) (now (out .exit)) ⌝ }
+{
+    if x == 0 {
+        return;
+    }
+    let r = s.r;
+    let l = s.l;
+    let mut j = 1;
+    while j < r {
+        let a = j * l;
+        let e = a + l;
+        let c = Gf::power(j * x).inverse();
+        scale_all(&mut out[a..e], c.0);
+        j += 1;
+    }
 }

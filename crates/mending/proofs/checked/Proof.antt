@@ -6,7 +6,7 @@ use native.Mathlib.Omega.{arith}
 use denote.Ref.{now}
 use lib.ListN.{take}
 use Rattle.stripe.specs.Shape.{dataLength}
-use Rattle.coding.specs.Check.{firstWrong}
+use Rattle.checking.specs.Check.{firstWrong}
 use Rattle.mending.specs.Restore.{Restores}
 use Rattle.mending.proofs.Nothing.{data-long, rest, restores}
 use borrow.Author.Needs.{needs}

@@ -3,12 +3,13 @@ use Prim.Native.Nat.{ℕ}
 use mathlib.Core.Path.{_≡_, refl, sym, ap, subst, _∙_}
 use mathlib.Core.List.{List}
 use lib.ListN.{length}
-use Rattle.mending.specs.declared.lost.Lost.{Lost}
-use Rattle.mending.specs.Lost.{lostList}
-use Rattle.mending.specs.Mend.{positions, mendRefusal}
+use Rattle.lost.specs.declared.Lost.{Lost}
+use Rattle.lost.specs.Lost.{lostList}
+use Rattle.lost.specs.Positions.{positions}
+use Rattle.mending.specs.Mend.{mendRefusal}
 use Rattle.mending.specs.Restore.{Ready, Restores}
 use Rattle.mending.proofs.Restored.{ready, list-same}
-use Rattle.mending.proofs.Listed.{passed}
+use Rattle.mending.proofs.Passed.{passed}
 use Rattle.mending.proofs.Nothing.{none-named}
 use borrow.Author.Needs.{needs}
 use Rattle.mending.proofs.mend.Statement.{statement}

@@ -3,7 +3,7 @@ use borrow.Author.Needs.{needs}
 use mathlib.Core.Path.{sym, _∙_}
 use native.Mathlib.Omega.{arith}
 use Rattle.stripe.proofs.Allowed.{allowed}
-use Rattle.mending.proofs.Listed.{mend-shape, mend-long, mend-list}
+use Rattle.mending.proofs.Passed.{mend-shape, mend-long, mend-list}
 use Rattle.mending.proofs.mend_refusal.Statement.{statement}
 use Rattle.mending.proofs.mend_refusal.Tie as tie
 
@@ -13,8 +13,8 @@ refusal-requires c κs = search needs
 returns : tie.Need-returns
 returns c = c .before .refusal .ensures ∙ sym (mend-shape (c .before .before .before .args .s) (c .before .before .before .args .d) (c .before .before .before .args .list .now) (λ e. c .if1 .taken (c .before .refusal .ensures ∙ e)))
 
-add-if2 : tie.Need-add-if2
-add-if2 c = let f = allowed (c .before .before .before .args .s) (sym (c .before .refusal .ensures) ∙ c .if1 .left) in omega (arith, f .data-most, f .parity-most)
+add-n : tie.Need-add-n
+add-n c = let f = allowed (c .before .before .before .args .s) (sym (c .before .refusal .ensures) ∙ c .if1 .left) in omega (arith, f .data-most, f .parity-most)
 
 mul-if2 : tie.Need-mul-if2
 mul-if2 c = let f = allowed (c .before .before .before .args .s) (sym (c .before .refusal .ensures) ∙ c .if1 .left) in omega (arith, f .stripe-length)
@@ -23,7 +23,7 @@ returns-2 : tie.Need-returns-2
 returns-2 c = sym (mend-long (c .before .before .before .before .args .s) (c .before .before .before .before .args .d) (c .before .before .before .before .args .list .now) (sym (c .before .before .refusal .ensures) ∙ c .before .if1 .left) (c .if2 .taken))
 
 list-refusal-requires : tie.Need-list-refusal-requires
-list-refusal-requires c κs = let f = allowed (c .before .before .before .before .args .s) (sym (c .before .before .refusal .ensures) ∙ c .before .if1 .left) in omega (arith, f .data-most, f .parity-most)
+list-refusal-requires c κs = search needs
 
 returns-3 : tie.Need-returns-3
 returns-3 c = c .list-refusal .ensures ∙ sym (mend-list (c .before .before .before .before .before .args .s) (c .before .before .before .before .before .args .d) (c .before .before .before .before .before .args .list .now) (sym (c .before .before .before .refusal .ensures) ∙ c .before .before .if1 .left) (c .before .if2 .left))
@@ -31,4 +31,4 @@ returns-3 c = c .list-refusal .ensures ∙ sym (mend-list (c .before .before .be
 pub mend-refusal-spec : {M : Type 1} → statement M
 mend-refusal-spec =
     tie.close
-    (tie.spec refusal-requires returns add-if2 mul-if2 returns-2 list-refusal-requires returns-3)
+    (tie.spec refusal-requires returns add-n mul-if2 returns-2 list-refusal-requires returns-3)

@@ -1,18 +1,18 @@
 -- `restore` meets its contract.
 use borrow.Author.Needs.{needs}
-use native.Mathlib.Nat.{mul-le-mul}
+use native.Mathlib.Omega.{arith}
 use Rattle.stripe.proofs.Allowed.{allowed}
 use Rattle.mending.proofs.restore.Statement.{statement}
 use Rattle.mending.proofs.restore.Tie as tie
 
+mul-n : tie.Need-mul-n
+mul-n c = omega (arith, allowed (c .before .before .args .s) (c .before .before .pre .0 .shape) .parity-length)
+
 slice-aggregate-restore-in : tie.Need-slice-aggregate-restore-in
 slice-aggregate-restore-in c = search needs
 
-slice-aggregate-restore-in-2 : tie.Need-slice-aggregate-restore-in-2
-slice-aggregate-restore-in-2 c = search needs
-
 restore-in-requires : tie.Need-restore-in-requires
-restore-in-requires c κs = let w = c .before .before .before .before .before .before .pre in (w .0, (w .1, (mul-le-mul {n₂ = 3} {m₂ = 64} (allowed (c .before .before .before .before .before .before .args .s) (w .0 .shape) .parity-most) (c .before .before .before .if1 .taken), c .before .before .before .if1 .taken)))
+restore-in-requires c κs = (c .before .before .before .before .before .pre .0, (c .before .before .before .before .before .pre .1, c .before .before .if1 .taken))
 
 same-length : tie.Need-same-length
 same-length c = search needs
@@ -20,14 +20,11 @@ same-length c = search needs
 returns : tie.Need-returns
 returns c = search needs
 
-slice-aggregate-restore-in-3 : tie.Need-slice-aggregate-restore-in-3
-slice-aggregate-restore-in-3 c = search needs
-
-slice-aggregate-restore-in-4 : tie.Need-slice-aggregate-restore-in-4
-slice-aggregate-restore-in-4 c = search needs
+slice-aggregate-restore-in-2 : tie.Need-slice-aggregate-restore-in-2
+slice-aggregate-restore-in-2 c = search needs
 
 restore-in-requires-2 : tie.Need-restore-in-requires-2
-restore-in-requires-2 c κs = let w = c .before .before .before .before .before .before .before .before .pre in (w .0, (w .1, (mul-le-mul {n₂ = 3} {m₂ = 512} (allowed (c .before .before .before .before .before .before .before .before .args .s) (w .0 .shape) .parity-most) (c .before .before .before .if2 .taken), c .before .before .before .if2 .taken)))
+restore-in-requires-2 c κs = (c .before .before .before .before .before .before .pre .0, (c .before .before .before .before .before .before .pre .1, c .before .before .if2 .taken))
 
 same-length-2 : tie.Need-same-length-2
 same-length-2 c = search needs
@@ -35,14 +32,14 @@ same-length-2 c = search needs
 returns-2 : tie.Need-returns-2
 returns-2 c = search needs
 
-slice-aggregate-restore-in-5 : tie.Need-slice-aggregate-restore-in-5
-slice-aggregate-restore-in-5 c = search needs
-
-slice-aggregate-restore-in-6 : tie.Need-slice-aggregate-restore-in-6
-slice-aggregate-restore-in-6 c = search needs
+slice-aggregate-restore-in-3 : tie.Need-slice-aggregate-restore-in-3
+slice-aggregate-restore-in-3 c = search needs
 
 restore-in-requires-3 : tie.Need-restore-in-requires-3
-restore-in-requires-3 c κs = let w = c .before .before .before .before .before .before .before .before .pre in let f = allowed (c .before .before .before .before .before .before .before .before .args .s) (w .0 .shape) in (w .0, (w .1, (f .parity-length, f .length-most)))
+restore-in-requires-3 c κs =
+    let w = c .before .before .before .before .before .before .pre in
+    let a = c .before .before .before .before .before .before .args in
+    (w .0, (w .1, allowed (a .s) (w .0 .shape) .parity-length))
 
 same-length-3 : tie.Need-same-length-3
 same-length-3 c = search needs
@@ -54,18 +51,16 @@ pub restore-spec : {M : Type 1} → statement M
 restore-spec =
     tie.close
     (tie.spec
+    mul-n
     slice-aggregate-restore-in
-    slice-aggregate-restore-in-2
     restore-in-requires
     same-length
     returns
-    slice-aggregate-restore-in-3
-    slice-aggregate-restore-in-4
+    slice-aggregate-restore-in-2
     restore-in-requires-2
     same-length-2
     returns-2
-    slice-aggregate-restore-in-5
-    slice-aggregate-restore-in-6
+    slice-aggregate-restore-in-3
     restore-in-requires-3
     same-length-3
     returns-3)

@@ -13,22 +13,19 @@ slice-relend-prefix-restore-rows : tie.Need-slice-relend-prefix-restore-rows
 slice-relend-prefix-restore-rows c = search needs
 
 slice-aggregate-restore-rows : tie.Need-slice-aggregate-restore-rows
-slice-aggregate-restore-rows c = let a = c .before .before .before .before .before .args in sym (length-take-le (a .s .r * a .s .l) (a .slots .now) (c .before .before .before .before .before .pre .1 .1 .0))
+slice-aggregate-restore-rows c = let a = c .before .before .before .before .args in sym (length-take-le (a .s .r * a .s .l) (a .slots .now) (c .before .before .before .before .pre .1 .1))
 
 restore-rows-requires : tie.Need-restore-rows-requires
 restore-rows-requires c κs =
-    let a = c .before .before .before .before .before .before .args in
-    let w = c .before .before .before .before .before .before .pre in
-    (w .0, (w .1 .0, (length-take-le (a .s .r * a .s .l) (a .slots .now) (w .1 .1 .0), w .1 .1 .1)))
+    let a = c .before .before .before .before .args in
+    let w = c .before .before .before .before .pre in
+    (w .0, (w .1 .0, length-take-le (a .s .r * a .s .l) (a .slots .now) (w .1 .1)))
 
 same-length : tie.Need-same-length
 same-length c = search needs
 
 same-length-2 : tie.Need-same-length-2
 same-length-2 c = search needs
-
-same-length-3 : tie.Need-same-length-3
-same-length-3 c = search needs
 
 returns : tie.Need-returns
 returns c = search needs
@@ -43,5 +40,4 @@ restore-in-spec =
     restore-rows-requires
     same-length
     same-length-2
-    same-length-3
     returns)

@@ -3,16 +3,15 @@ use borrow.Author.Needs.{needs}
 use Prim.Native.Nat.{ℕ}
 use mathlib.Core.Path.{_≡_, refl, sym, subst, _∙_}
 use mathlib.Core.Logic.{inl, inr}
-use native.Mathlib.Omega.{arith}
 use borrow.Author.Tests.{not-true, not-false}
 use Rattle.field.specs.Bytes.{Bytes}
 use Rattle.stripe.specs.declared.Shape.{Shape}
 use Rattle.stripe.specs.Shape.{parityLength, stripeLength}
 use Rattle.syndromes.specs.Syndromes.{Lent}
-use Rattle.mending.specs.declared.lost.Lost.{Lost}
+use Rattle.lost.specs.declared.Lost.{Lost}
 use Rattle.mending.specs.Mend.{Restored}
 use Rattle.mending.specs.declared.plan.Plan.{Plan}
-use Rattle.mending.specs.Lost.{lostList}
+use Rattle.lost.specs.Lost.{lostList}
 use Rattle.mending.specs.Restore.{Ready}
 use Rattle.mending.specs.Plan.{Planned}
 use Rattle.mending.proofs.Restored.{none-restored, restored}
@@ -31,16 +30,16 @@ syndromes-requires c κs = search needs
 
 solve-runs-requires : tie.Need-solve-runs-requires
 solve-runs-requires c κs =
-    let w = c .before .before .before .before .before .before .before .before .before .before .before .pre in
-    let p = c .before .before .before .before .before .before .before .plan-of in
-    let sy = c .before .before .before .before .syndromes .ensures .lent (lent _ _ _ _ _ (w .0) (p .ensures .1) (w .1 .0) (w .1 .1 .0)) in
-    (record { shape = w .0 .shape; plan = p .ensures .1; long = sy .long }, w .1 .1 .1)
+    let w = c .before .before .before .before .before .before .before .before .before .pre in
+    let p = c .before .before .before .before .before .before .plan-of in
+    let sy = c .before .before .before .syndromes .ensures .lent (lent _ _ _ _ _ (w .0) (p .ensures .1) (w .1 .0) (w .1 .1)) in
+    record { shape = w .0 .shape; plan = p .ensures .1; long = sy .long }
 
 settle-requires : tie.Need-settle-requires
 settle-requires c κs =
-    let w = c .before .before .before .before .before .before .before .before .before .before .before .before .before .before .before .before .before .before .pre in
-    let r = c .before .before .before .before .before .before .solve-runs .ensures in
-    (record { shape = w .0 .shape; plan = c .before .before .before .before .before .before .before .before .before .before .before .before .before .before .plan-of .ensures .1; long = r .0 .long ∙ c .before .before .before .before .before .before .before .before .before .before .before .syndromes .ensures .lent (lent _ _ _ _ _ (w .0) (c .before .before .before .before .before .before .before .before .before .before .before .before .before .before .plan-of .ensures .1) (w .1 .0) (w .1 .1 .0)) .long }, omega (arith, r .1, w .1 .1 .1))
+    let w = c .before .before .before .before .before .before .before .before .before .before .before .before .before .pre in
+    let r = c .before .before .before .solve-runs .ensures in
+    record { shape = w .0 .shape; plan = c .before .before .before .before .before .before .before .before .before .before .plan-of .ensures .1; long = r .long ∙ c .before .before .before .before .before .before .before .syndromes .ensures .lent (lent _ _ _ _ _ (w .0) (c .before .before .before .before .before .before .before .before .before .before .plan-of .ensures .1) (w .1 .0) (w .1 .1)) .long }
 
 same-length : tie.Need-same-length
 same-length c = search needs
@@ -48,62 +47,56 @@ same-length c = search needs
 same-length-2 : tie.Need-same-length-2
 same-length-2 c = search needs
 
-same-length-3 : tie.Need-same-length-3
-same-length-3 c = search needs
-
 returns : tie.Need-returns
 returns c =
-    let a = c .before .before .before .before .before .before .before .before .before .before .before .before .before .before .before .before .before .before .before .before .before .before .before .before .args in
-    let w = c .before .before .before .before .before .before .before .before .before .before .before .before .before .before .before .before .before .before .before .before .before .before .before .before .pre in
-    let p = c .before .before .before .before .before .before .before .before .before .before .before .before .before .before .before .before .before .before .before .before .plan-of in
-    let bytes : Bytes (a .stripe .now) = λ i. c .before .before .before .before .before .before .before .before .before .before .before .before .before .before .before .before .before .before .before .before .before .before .before .slice-known .given i .fits in
-    let sy = c .before .before .before .before .before .before .before .before .before .before .before .before .before .before .before .before .before .syndromes .ensures .lent (lent _ _ _ _ _ (w .0) (p .ensures .1) (w .1 .0) (w .1 .1 .0)) in
+    let a = c .before .before .before .before .before .before .before .before .before .before .before .before .before .before .before .before .before .args in
+    let w = c .before .before .before .before .before .before .before .before .before .before .before .before .before .before .before .before .before .pre in
+    let p = c .before .before .before .before .before .before .before .before .before .before .before .before .before .before .plan-of in
+    let bytes : Bytes (a .stripe .now) = λ i. c .before .before .before .before .before .before .before .before .before .before .before .before .before .before .before .before .slice-known .given i .fits in
+    let sy = c .before .before .before .before .before .before .before .before .before .before .before .syndromes .ensures .lent (lent _ _ _ _ _ (w .0) (p .ensures .1) (w .1 .0) (w .1 .1)) in
     inr (
       refl,
       (
         refl,
         λ zs r.
             none-restored (a .s) (w .0 .shape) (p .result) (p .ensures .1) (a .stripe .now) bytes
-            (c .before .before .before .before .before .settle .ensures .not-so (a .stripe .now) bytes (c .before .before .before .before .before .before .before .before .before .before .before .before .solve-runs .ensures .0 .all (a .stripe .now) bytes sy) (not-true _ (c .if1 .taken))) zs
+            (c .before .before .before .settle .ensures .not-so (a .stripe .now) bytes (c .before .before .before .before .before .before .before .solve-runs .ensures .all (a .stripe .now) bytes sy) (not-true _ (c .if1 .taken))) zs
             (subst (λ (l : Lost). Restored (a .s) (lostList l) (a .stripe .now) zs) (sym (p .ensures .0)) r),
       ),
     )
 
 write-requires : tie.Need-write-requires
 write-requires c κs =
-    let w = c .before .before .before .before .before .before .before .before .before .before .before .before .before .before .before .before .before .before .before .before .before .before .before .before .before .before .pre in (
+    let w = c .before .before .before .before .before .before .before .before .before .before .before .before .before .before .before .before .before .before .before .pre in (
       record {
         shape = w .0 .shape;
-        plan = c .before .before .before .before .before .before .before .before .before .before .before .before .before .before .before .before .before .before .before .before .before .before .plan-of .ensures .1;
-        long = c .before .before .before .before .before .before .before .settle .ensures .long ∙ c .before .before .before .before .before .before .before .before .before .before .before .before .before .before .solve-runs .ensures .0 .long ∙ c .before .before .before .before .before .before .before .before .before .before .before .before .before .before .before .before .before .before .before .syndromes .ensures .lent (lent _ _ _ _ _ (w .0) (c .before .before .before .before .before .before .before .before .before .before .before .before .before .before .before .before .before .before .before .before .before .before .plan-of .ensures .1) (w .1 .0) (w .1 .1 .0)) .long;
+        plan = c .before .before .before .before .before .before .before .before .before .before .before .before .before .before .before .before .plan-of .ensures .1;
+        long = c .before .before .before .before .before .settle .ensures .long ∙ c .before .before .before .before .before .before .before .before .before .solve-runs .ensures .long ∙ c .before .before .before .before .before .before .before .before .before .before .before .before .before .syndromes .ensures .lent (lent _ _ _ _ _ (w .0) (c .before .before .before .before .before .before .before .before .before .before .before .before .before .before .before .before .plan-of .ensures .1) (w .1 .0) (w .1 .1)) .long;
       },
       w .1 .0,
     )
 
+same-length-3 : tie.Need-same-length-3
+same-length-3 c = search needs
+
 same-length-4 : tie.Need-same-length-4
 same-length-4 c = search needs
 
-same-length-5 : tie.Need-same-length-5
-same-length-5 c = search needs
-
-same-length-6 : tie.Need-same-length-6
-same-length-6 c = search needs
-
 returns-2 : tie.Need-returns-2
 returns-2 c =
-    let a = c .before .before .before .before .before .before .before .before .before .before .before .before .before .before .before .before .before .before .before .before .before .before .before .before .before .before .before .before .before .args in
-    let w = c .before .before .before .before .before .before .before .before .before .before .before .before .before .before .before .before .before .before .before .before .before .before .before .before .before .before .before .before .before .pre in
-    let p = c .before .before .before .before .before .before .before .before .before .before .before .before .before .before .before .before .before .before .before .before .before .before .before .before .before .plan-of in
-    let bytes : Bytes (a .stripe .now) = λ i. c .before .before .before .before .before .before .before .before .before .before .before .before .before .before .before .before .before .before .before .before .before .before .before .before .before .before .before .before .slice-known .given i .fits in
-    let sy = c .before .before .before .before .before .before .before .before .before .before .before .before .before .before .before .before .before .before .before .before .before .before .syndromes .ensures .lent (lent _ _ _ _ _ (w .0) (p .ensures .1) (w .1 .0) (w .1 .1 .0)) in
-    let k = c .before .before .before .before .before .before .before .before .before .before .settle in
+    let a = c .before .before .before .before .before .before .before .before .before .before .before .before .before .before .before .before .before .before .before .before .before .before .args in
+    let w = c .before .before .before .before .before .before .before .before .before .before .before .before .before .before .before .before .before .before .before .before .before .before .pre in
+    let p = c .before .before .before .before .before .before .before .before .before .before .before .before .before .before .before .before .before .before .before .plan-of in
+    let bytes : Bytes (a .stripe .now) = λ i. c .before .before .before .before .before .before .before .before .before .before .before .before .before .before .before .before .before .before .before .before .before .slice-known .given i .fits in
+    let sy = c .before .before .before .before .before .before .before .before .before .before .before .before .before .before .before .before .syndromes .ensures .lent (lent _ _ _ _ _ (w .0) (p .ensures .1) (w .1 .0) (w .1 .1)) in
+    let k = c .before .before .before .before .before .before .before .before .settle in
     let e = c .before .before .write in
     inl (
       refl,
       subst (λ (l : Lost). Restored (a .s) (lostList l) (a .stripe .now) (e .last .1 .1 .1 .0)) (p .ensures .0)
           (restored (a .s) (w .0 .shape) (p .result) (p .ensures .1) (a .stripe .now) bytes (k .last .1 .1 .0) (e .last .1 .1 .1 .0)
-          (λ i. c .before .before .before .before .before .before .before .before .slice-known7 .given i .fits) (λ i. c .slice-known9 .given i .fits) (e .ensures .long ∙ w .1 .0)
-          (k .ensures .so (a .stripe .now) bytes (c .before .before .before .before .before .before .before .before .before .before .before .before .before .before .before .before .before .solve-runs .ensures .0 .all (a .stripe .now) bytes sy) (not-false _ (c .before .before .before .before .before .if1 .left))) (e .ensures)),
+          (λ i. c .before .before .before .before .before .before .slice-known5 .given i .fits) (λ i. c .slice-known6 .given i .fits) (e .ensures .long ∙ w .1 .0)
+          (k .ensures .so (a .stripe .now) bytes (c .before .before .before .before .before .before .before .before .before .before .before .before .solve-runs .ensures .all (a .stripe .now) bytes sy) (not-false _ (c .before .before .before .before .before .if1 .left))) (e .ensures)),
     )
 
 pub restore-rows-spec : {M : Type 1} → statement M
@@ -116,10 +109,8 @@ restore-rows-spec =
     settle-requires
     same-length
     same-length-2
-    same-length-3
     returns
     write-requires
+    same-length-3
     same-length-4
-    same-length-5
-    same-length-6
     returns-2)

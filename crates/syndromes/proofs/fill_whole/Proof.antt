@@ -1,9 +1,9 @@
--- `fill_whole` meets its contract: the data are encoded, and what lies after them is added.
+-- `fill_whole` meets its contract: the data are encoded, what lies after them is added, and each row is divided by its weight.
 use borrow.Author.Needs.{needs}
 use mathlib.Core.Path.{sym, ap, _∙_}
 use Rattle.lanes.specs.Lanes.{onto}
 use Rattle.stripe.proofs.Places.{data-of-length}
-use Rattle.syndromes.proofs.Filling.{rest, whole-lacks}
+use Rattle.syndromes.proofs.Filling.{rest, whole-lacks, first-lent, divided-lacks, weights-small}
 use Rattle.syndromes.proofs.fill_whole.Statement.{statement}
 use Rattle.syndromes.proofs.fill_whole.Tie as tie
 
@@ -28,15 +28,22 @@ part-add-end c = search needs
 add-requires : tie.Need-add-requires
 add-requires c κs = search needs
 
+divide-requires : tie.Need-divide-requires
+divide-requires c κs =
+    let s = c .before .before .before .before .before .before .before .before .before .before .before .before .before in
+    (search needs, weights-small _ _ _ _ (s .pre))
+
 same-length : tie.Need-same-length
 same-length c = search needs
 
 returns : tie.Need-returns
 returns c =
-    let s = c .before .before .before .before .before .before .before .before .before .before .before .before in
-    whole-lacks (s .args .s) (s .args .stripe .now) (s .args .out .now) _ _ (s .pre) (λ i. c .slice-known3 .given i .fits)
-    (c .before .before .before .before .before .before .before .encode .ensures .1)
-    (c .before .before .add .ensures ∙ ap (onto _ _) (rest (s .args .s) (s .args .stripe .now) (s .pre .long)))
+    let s = c .before .before .before .before .before .before .before .before .before .before .before .before .before .before .before .before in
+    divided-lacks (s .args .s) (s .args .x) (s .args .stripe .now) _ _
+    (whole-lacks (s .args .s) (s .args .stripe .now) (s .args .out .now) _ _ (first-lent _ _ _ _ (s .pre)) (λ i. c .before .before .before .before .slice-known3 .given i .fits)
+    (c .before .before .before .before .before .before .before .before .before .before .before .encode .ensures .1)
+    (c .before .before .before .before .before .before .add .ensures ∙ ap (onto _ _) (rest (s .args .s) (s .args .stripe .now) (s .pre .long))))
+    (λ i. c .slice-known4 .given i .fits) (c .before .before .divide .ensures)
 
 pub fill-whole-spec : {M : Type 1} → statement M
 fill-whole-spec =
@@ -49,5 +56,6 @@ fill-whole-spec =
     part-add-start
     part-add-end
     add-requires
+    divide-requires
     same-length
     returns)

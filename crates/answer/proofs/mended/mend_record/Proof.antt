@@ -8,7 +8,7 @@ use lib.ListN.{length, take, length-take}
 use lib.Seq.{length-take-le}
 use Rattle.answer.proofs.Pairs.{copied-over}
 use Rattle.answer.proofs.Reading.{blank-long, lent-stripe, lent-list}
-use Rattle.answer.proofs.Outcome.{outcome-unread, outcome-lent, answered-refused}
+use Rattle.answer.proofs.Outcome.{outcome-unread, outcome-lent, answered-refused, refused-is}
 use Rattle.answer.proofs.Worked.{answer-columns, answer-stripe, answer-list, answered}
 use borrow.Author.Needs.{needs}
 use Rattle.answer.proofs.mended.mend_record.Statement.{statement}
@@ -51,16 +51,14 @@ slice-aggregate-read-and-mend-2 c = search needs
 read-and-mend-requires : tie.Need-read-and-mend-requires
 read-and-mend-requires c κs = search needs
 
-refused-requires-3 : tie.Need-refused-requires-3
-refused-requires-3 c κs = search needs
-
 returns-3 : tie.Need-returns-3
 returns-3 c =
-    let r = c .before .before .before .before .before .read-and-mend in
-    let a = c .before .before .before .before .before .before .before .before .before .before .before .before .before .before .before .args in
-    answered-refused (now (a .bytes)) (now (a .stripe)) (now (a .lost)) (r .ensures .bytes) (r .result .number) (c .refused3 .result)
+    let r = c .before .before .before .before .read-and-mend in
+    let a = c .before .before .before .before .before .before .before .before .before .before .before .before .before .before .args in
+    answered-refused (now (a .bytes)) (now (a .stripe)) (now (a .lost)) (r .ensures .bytes) (r .result .number) (r .result)
     (outcome-lent (now (a .bytes)) (length (now (a .stripe))) (length (now (a .lost))) (r .result .number) (r .ensures .bytes)
-    (c .before .before .before .before .before .before .before .before .before .before .before .if1 .left) (c .before .before .before .before .before .before .before .before .before .before .if2 .left) (r .ensures .outcome)) (c .before .if3 .taken) (c .refused3 .ensures)
+    (c .before .before .before .before .before .before .before .before .before .before .if1 .left) (c .before .before .before .before .before .before .before .before .before .if2 .left) (r .ensures .outcome)) (c .if3 .taken)
+    (r .ensures .reported ∙ sym (refused-is (now (a .bytes)) (r .result .number) (c .if3 .taken)))
 
 add-n : tie.Need-add-n
 add-n c =
@@ -136,7 +134,6 @@ mend-record-spec =
     slice-aggregate-read-and-mend
     slice-aggregate-read-and-mend-2
     read-and-mend-requires
-    refused-requires-3
     returns-3
     add-n
     mul-n

@@ -19,16 +19,19 @@ first-row-requires c κs = let f = allowed (c .before .args .s) (c .before .pre 
 row-step-requires : tie.Need-row-step-requires
 row-step-requires c κs = let f = allowed (c .before .before .args .s) (c .before .before .pre .shape) in (omega (arith, f .parity-most, c .before .before .pre .few), f .data-most)
 
+array-read-pivot-of : tie.Need-array-read-pivot-of
+array-read-pivot-of c = search needs
+
 pivot-of-requires : tie.Need-pivot-of-requires
 pivot-of-requires c κs = search needs
 
 returns : tie.Need-returns
 returns c =
-    let a = c .before .before .before .before .args in
-    let e = c .before .before .before .data-lost .ensures in
-    (refl, planned (a .s) (a .lost) _ _ _ _ (c .before .before .before .before .pre) (e .0) (e .1) (c .pivot-of .ensures) (c .before .before .first-row .ensures) (c .before .row-step .ensures))
+    let a = c .before .before .before .before .before .args in
+    let e = c .before .before .before .before .data-lost .ensures in
+    (refl, planned (a .s) (a .lost) _ _ _ _ (c .before .before .before .before .before .pre) (e .0) (e .1) (c .pivot-of .ensures) (c .before .before .before .first-row .ensures) (c .before .before .row-step .ensures))
 
 pub plan-of-spec : {M : Type 1} → statement M
 plan-of-spec =
     tie.close
-    (tie.spec add-data-lost data-lost-requires first-row-requires row-step-requires pivot-of-requires returns)
+    (tie.spec add-data-lost data-lost-requires first-row-requires row-step-requires array-read-pivot-of pivot-of-requires returns)

@@ -13,86 +13,101 @@ use Rattle.mending.specs.Plan.{less}
 use Rattle.syndromes.specs.Syndromes.{Syndromes}
 use Rattle.mending.specs.Scratch.{SolvedBelow}
 use Rattle.mending.proofs.Planned.{weights-asked, first-few, step-few}
-use Rattle.mending.proofs.Runs.{runs-start}
+use Rattle.mending.proofs.Slots.{spaced-as}
+use Rattle.mending.proofs.Runs.{first-length, step-length, sizes, runs-start, run-spaced, run-solved, powers-length}
 use Rattle.mending.proofs.run.solve_runs.Statement.{statement}
 use Rattle.mending.proofs.run.solve_runs.Tie as tie
 
 abbrev Inv-loop : tie.InvT-loop
-Inv-loop s p slots₀ spare₀ count points weights n m b₀ slots spare b =
-    (b ≤ runs s) × ((length slots ≡ length slots₀) × ((length spare ≡ length spare₀)
-    × ((xs : List ℕ) → Bytes xs → Syndromes s (p .pivot) xs slots₀ → SolvedBelow s p xs b slots)))
+Inv-loop s p slots₀ count points weights n m l at d b₀ slots b =
+    (b ≤ runs s) × ((length slots ≡ length slots₀) × (Bytes slots × ((xs : List ℕ) → Bytes xs → Syndromes s (p .pivot) xs slots₀ → SolvedBelow s p xs b slots)))
 
 abbrev μ-loop : tie.MeasureT-loop
-μ-loop s p slots₀ spare₀ count points weights n m b₀ slots spare b = runs s - b
+μ-loop s p slots₀ count points weights n m l at d b₀ slots b = runs s - b
 
 row-weights-requires : tie.Need-row-weights-requires Inv-loop μ-loop
-row-weights-requires c κs = let f = allowed (c .before .before .args .s) (c .before .before .pre .0 .shape) in weights-asked (c .before .before .args .s) (c .before .before .args .p) _ _ f (c .before .before .pre .0 .plan) (omega arith) (omega (arith, step-few (c .before .before .args .s) f (c .before .before .args .p) (c .before .before .pre .0 .plan)))
+row-weights-requires c κs = let f = allowed (c .before .args .s) (c .before .pre .shape) in weights-asked (c .before .args .s) (c .before .args .p) _ _ f (c .before .pre .plan) (omega arith) (omega (arith, step-few (c .before .args .s) f (c .before .args .p) (c .before .pre .plan), first-few (c .before .args .s) f (c .before .args .p) (c .before .pre .plan)))
 
 row-weights-requires-2 : tie.Need-row-weights-requires-2 Inv-loop μ-loop
-row-weights-requires-2 c κs = let f = allowed (c .before .before .before .args .s) (c .before .before .before .pre .0 .shape) in weights-asked (c .before .before .before .args .s) (c .before .before .before .args .p) _ _ f (c .before .before .before .pre .0 .plan) (omega arith) (omega (arith, first-few (c .before .before .before .args .s) f (c .before .before .before .args .p) (c .before .before .before .pre .0 .plan)))
+row-weights-requires-2 c κs = let f = allowed (c .before .before .args .s) (c .before .before .pre .shape) in weights-asked (c .before .before .args .s) (c .before .before .args .p) _ _ f (c .before .before .pre .plan) (omega arith) (omega (arith, first-few (c .before .before .args .s) f (c .before .before .args .p) (c .before .before .pre .plan)))
 
 run-count-requires : tie.Need-run-count-requires Inv-loop μ-loop
-run-count-requires c κs = c .before .before .before .before .pre .0 .shape
+run-count-requires c κs = c .before .before .before .pre .shape
 
 run-length-requires : tie.Need-run-length-requires Inv-loop μ-loop
-run-length-requires c κs = c .before .before .before .before .before .pre .0 .shape
+run-length-requires c κs = c .before .before .before .before .pre .shape
+
+mul-at : tie.Need-mul-at Inv-loop μ-loop
+mul-at c = omega (arith, first-length (c .before .before .before .before .before .before .args .s) (c .before .before .before .before .before .before .args .p) (allowed (c .before .before .before .before .before .before .args .s) (c .before .before .before .before .before .before .pre .shape)) (c .before .before .before .before .before .before .pre .plan), step-length (c .before .before .before .before .before .before .args .s) (c .before .before .before .before .before .before .args .p) (allowed (c .before .before .before .before .before .before .args .s) (c .before .before .before .before .before .before .pre .shape)) (c .before .before .before .before .before .before .pre .plan))
+
+mul-d : tie.Need-mul-d Inv-loop μ-loop
+mul-d c = omega (arith, step-length (c .before .before .before .before .before .before .before .args .s) (c .before .before .before .before .before .before .before .args .p) (allowed (c .before .before .before .before .before .before .before .args .s) (c .before .before .before .before .before .before .before .pre .shape)) (c .before .before .before .before .before .before .before .pre .plan))
 
 loop-holds : tie.Need-loop-holds Inv-loop μ-loop
-loop-holds c = (omega arith, (refl, (refl, λ xs b t. runs-start (c .before .before .before .before .before .before .args .s) (c .before .before .before .before .before .before .args .p) xs _ t)))
+loop-holds c = (omega arith, (refl, (λ i. c .before .before .before .before .before .before .slice-known .given i .fits, λ xs b t. runs-start (c .before .before .before .before .before .before .before .args .s) (c .before .before .before .before .before .before .before .args .p) xs _ t)))
+
+carry-requires : tie.Need-carry-requires Inv-loop μ-loop
+carry-requires c κs =
+    let w = c .before .before .before .before .before .before .before .before .before .before .pre in
+    (record { shape = w .shape; plan = w .plan; long = c .before .before .loop .inv .1 .0 ∙ w .long }, (c .before .before .before .before .before .run-length .ensures, omega (arith, c .before .loop-test .taken, c .before .before .before .before .before .before .run-count .ensures)))
 
 array-share-prefix-points : tie.Need-array-share-prefix-points Inv-loop μ-loop
-array-share-prefix-points c = let w = c .before .before .before .before .before .before .before .before .pre .0 .plan in omega (arith, c .before .before .before .before .before .row-weights .ensures .0, w .many, w .few)
+array-share-prefix-points c = let w = c .before .before .before .before .before .before .before .before .before .before .before .before .before .pre .plan in omega (arith, c .before .before .before .before .before .before .before .before .before .before .before .row-weights .ensures .0, w .many, w .few)
 
-slice-aggregate-solve-run : tie.Need-slice-aggregate-solve-run Inv-loop μ-loop
-slice-aggregate-solve-run c = let w = c .before .before .before .before .before .before .before .before .before .pre .0 .plan in sym (length-take-le (c .before .before .before .before .before .before .before .before .before .args .p .count) (c .before .before .before .before .before .before .row-weights .result) (omega (arith, c .before .before .before .before .before .before .row-weights .ensures .0, w .many, w .few)))
+slice-aggregate-solve-slots : tie.Need-slice-aggregate-solve-slots Inv-loop μ-loop
+slice-aggregate-solve-slots c = let w = c .before .before .before .before .before .before .before .before .before .before .before .before .before .before .pre .plan in sym (length-take-le (c .before .before .before .before .before .before .before .before .before .before .before .before .before .before .args .p .count) (c .before .before .before .before .before .before .before .before .before .before .before .before .row-weights .result) (omega (arith, c .before .before .before .before .before .before .before .before .before .before .before .before .row-weights .ensures .0, w .many, w .few)))
 
 array-share-prefix-weights : tie.Need-array-share-prefix-weights Inv-loop μ-loop
-array-share-prefix-weights c = let w = c .before .before .before .before .before .before .before .before .before .pre .0 .plan in omega (arith, c .before .before .before .before .before .row-weights2 .ensures .0, w .many, w .few)
+array-share-prefix-weights c = let w = c .before .before .before .before .before .before .before .before .before .before .before .before .before .before .pre .plan in omega (arith, c .before .before .before .before .before .before .before .before .before .before .before .row-weights2 .ensures .0, w .many, w .few)
 
-slice-aggregate-solve-run-2 : tie.Need-slice-aggregate-solve-run-2 Inv-loop μ-loop
-slice-aggregate-solve-run-2 c = let w = c .before .before .before .before .before .before .before .before .before .before .pre .0 .plan in sym (length-take-le (c .before .before .before .before .before .before .before .before .before .before .args .p .count) (c .before .before .before .before .before .before .row-weights2 .result) (omega (arith, c .before .before .before .before .before .before .row-weights2 .ensures .0, w .many, w .few)))
+slice-aggregate-solve-slots-2 : tie.Need-slice-aggregate-solve-slots-2 Inv-loop μ-loop
+slice-aggregate-solve-slots-2 c = let w = c .before .before .before .before .before .before .before .before .before .before .before .before .before .before .before .pre .plan in sym (length-take-le (c .before .before .before .before .before .before .before .before .before .before .before .before .before .before .before .args .p .count) (c .before .before .before .before .before .before .before .before .before .before .before .before .row-weights2 .result) (omega (arith, c .before .before .before .before .before .before .before .before .before .before .before .before .row-weights2 .ensures .0, w .many, w .few)))
 
-solve-run-requires : tie.Need-solve-run-requires Inv-loop μ-loop
-solve-run-requires c κs =
-    let a = c .before .before .before .before .before .before .before .before .before .before .before .before .args in
-    let w = c .before .before .before .before .before .before .before .before .before .before .before .before .pre in
-    let t = c .before .before .before .before .before .loop .inv in
-    let is = ap (less (a .p .pivot)) (w .0 .plan .front) in (
-      record { shape = w .0 .shape; plan = w .0 .plan; long = t .1 .0 ∙ w .0 .long },
-      (
-        omega (arith, t .1 .1 .0, w .1),
-        (
-          c .before .before .before .before .before .before .run-length .ensures,
-          (omega (arith, c .before .before .before .before .loop-test .taken, c .before .before .before .before .before .before .before .run-count .ensures), (c .before .before .before .before .before .before .before .before .before .row-weights .ensures .1 ∙ ap (powers (a .p .step)) is, c .before .before .before .before .before .before .before .before .row-weights2 .ensures .1 ∙ ap (powers (a .p .first)) is)),
-        ),
-      ),
+mul-solve-slots : tie.Need-mul-solve-slots Inv-loop μ-loop
+mul-solve-slots c = let w = c .before .before .before .before .before .before .before .before .before .before .before .before .before .before .before .before .pre in let f = allowed (c .before .before .before .before .before .before .before .before .before .before .before .before .before .before .before .before .args .s) (w .shape) in let z = sizes (c .before .before .before .before .before .before .before .before .before .before .before .before .before .before .before .before .args .s) (c .before .before .before .before .before .before .before .before .before .before .before .before .before .before .before .before .args .p) (c .before .before .before .before .before .before .before .before .loop .b) 0 (c .before .before .before .before .before .before .before .before .before .before .before .run-length .result) f (w .plan) (c .before .before .before .before .before .before .before .before .before .before .before .run-length .ensures) (omega (arith, c .before .before .before .before .before .before .before .loop-test .taken, c .before .before .before .before .before .before .before .before .before .before .before .before .run-count .ensures)) (f .parity-some) in omega (arith, z .run)
+
+add-solve-slots : tie.Need-add-solve-slots Inv-loop μ-loop
+add-solve-slots c = let w = c .before .before .before .before .before .before .before .before .before .before .before .before .before .before .before .before .pre in let f = allowed (c .before .before .before .before .before .before .before .before .before .before .before .before .before .before .before .before .args .s) (w .shape) in let z = sizes (c .before .before .before .before .before .before .before .before .before .before .before .before .before .before .before .before .args .s) (c .before .before .before .before .before .before .before .before .before .before .before .before .before .before .before .before .args .p) (c .before .before .before .before .before .before .before .before .loop .b) 0 (c .before .before .before .before .before .before .before .before .before .before .before .run-length .result) f (w .plan) (c .before .before .before .before .before .before .before .before .before .before .before .run-length .ensures) (omega (arith, c .before .before .before .before .before .before .before .loop-test .taken, c .before .before .before .before .before .before .before .before .before .before .before .before .run-count .ensures)) (f .parity-some) in omega (arith, z .first, z .run)
+
+solve-slots-requires : tie.Need-solve-slots-requires Inv-loop μ-loop
+solve-slots-requires c κs =
+    let a = c .before .before .before .before .before .before .before .before .before .before .before .before .before .before .before .before .args in
+    let w = c .before .before .before .before .before .before .before .before .before .before .before .before .before .before .before .before .pre in
+    let f = allowed (a .s) (w .shape) in
+    let k = c .before .before .before .before .before .carry .ensures in
+    let is = ap (less (a .p .pivot)) (w .plan .front) in
+    let bs = powers-length (a .s) f (a .p) (w .plan) (a .p .step) _ (c .before .before .before .before .before .before .before .before .before .before .before .before .before .before .row-weights .ensures .1 ∙ ap (powers (a .p .step)) is) in
+    let ws = powers-length (a .s) f (a .p) (w .plan) (a .p .first) _ (c .before .before .before .before .before .before .before .before .before .before .before .before .before .row-weights2 .ensures .1 ∙ ap (powers (a .p .first)) is) in (
+      spaced-as _ _ _ _ _ _ _ (sym bs) (sym (k .long ∙ c .before .before .before .before .before .before .before .before .loop .inv .1 .0))
+          (run-spaced (a .s) (a .p) (c .before .before .before .before .before .before .before .before .loop .b) (c .before .before .before .before .before .before .before .before .before .before .before .run-length .result) _ f (w .plan) (c .before .before .before .before .before .before .before .before .before .before .before .run-length .ensures) (omega (arith, c .before .before .before .before .before .before .before .loop-test .taken, c .before .before .before .before .before .before .before .before .before .before .before .before .run-count .ensures)) (w .long)),
+      ws ∙ sym bs,
     )
 
 add-b : tie.Need-add-b Inv-loop μ-loop
-add-b c = let f = allowed (c .before .before .before .before .before .before .before .before .before .before .before .before .before .before .before .before .before .args .s) (c .before .before .before .before .before .before .before .before .before .before .before .before .before .before .before .before .before .pre .0 .shape) in omega (arith, c .before .before .before .before .before .before .before .before .before .before .loop .inv .0, f .runs-most)
+add-b c = let f = allowed (c .before .before .before .before .before .before .before .before .before .before .before .before .before .before .before .before .before .before .before .args .s) (c .before .before .before .before .before .before .before .before .before .before .before .before .before .before .before .before .before .before .before .pre .shape) in omega (arith, c .before .before .before .before .before .before .before .before .before .before .before .loop .inv .0, f .runs-most)
 
 loop-less : tie.Need-loop-less Inv-loop μ-loop
-loop-less c = omega (arith, c .before .before .before .before .before .before .before .before .before .loop-test .taken, c .before .before .before .before .before .before .before .before .before .before .before .before .run-count .ensures)
+loop-less c = omega (arith, c .before .before .before .before .before .before .before .before .before .before .loop-test .taken, c .before .before .before .before .before .before .before .before .before .before .before .before .before .before .before .run-count .ensures)
 
 loop-again : tie.Need-loop-again Inv-loop μ-loop
 loop-again c =
-    let k = c .before .before .before .before .solve-run .ensures in
-    let t = c .before .before .before .before .before .before .before .before .before .before .loop .inv in
-    (omega (arith, c .before .before .before .before .before .before .before .before .before .loop-test .taken, c .before .before .before .before .before .before .before .before .before .before .before .before .run-count .ensures), (k .0 .long ∙ t .1 .0, (k .1 ∙ t .1 .1 .0, λ xs b z. k .0 .more xs b (t .1 .1 .1 xs b z))))
+    let a = c .before .before .before .before .before .before .before .before .before .before .before .before .before .before .before .before .before .before .before .args in
+    let w = c .before .before .before .before .before .before .before .before .before .before .before .before .before .before .before .before .before .before .before .pre in
+    let t = c .before .before .before .before .before .before .before .before .before .before .before .loop in
+    let is = ap (less (a .p .pivot)) (w .plan .front) in
+    let k = run-solved (a .s) (allowed (a .s) (w .shape)) (a .p) (w .plan) (t .b) (c .before .before .before .before .before .before .before .before .before .before .before .before .before .before .run-length .result) _ _ (t .slots) (c .before .before .before .before .before .before .before .before .carry .last .1 .1 .1 .1 .0) _
+    (c .before .before .before .before .before .before .before .before .before .before .before .before .before .before .run-length .ensures) (omega (arith, c .before .before .before .before .before .before .before .before .before .before .loop-test .taken, c .before .before .before .before .before .before .before .before .before .before .before .before .before .before .before .run-count .ensures)) (t .inv .1 .1 .0) (λ i. c .before .before .before .before .before .before .slice-known2 .given i .fits)
+    (c .before .before .before .before .before .before .before .before .before .before .before .before .before .before .before .before .before .row-weights .ensures .1 ∙ ap (powers (a .p .step)) is) (c .before .before .before .before .before .before .before .before .before .before .before .before .before .before .before .before .row-weights2 .ensures .1 ∙ ap (powers (a .p .first)) is) (c .before .before .before .before .before .before .before .before .carry .ensures) (c .before .before .solve-slots .ensures) in
+    (omega (arith, c .before .before .before .before .before .before .before .before .before .before .loop-test .taken, c .before .before .before .before .before .before .before .before .before .before .before .before .before .before .before .run-count .ensures), (k .long ∙ t .inv .1 .0, (λ i. c .slice-known3 .given i .fits, λ xs b z. k .more xs b (t .inv .1 .1 .1 xs b z))))
 
 same-length : tie.Need-same-length Inv-loop μ-loop
 same-length c = c .before .loop .inv .1 .0
 
-same-length-2 : tie.Need-same-length-2 Inv-loop μ-loop
-same-length-2 c = c .before .loop .inv .1 .1 .0
-
 returns : tie.Need-returns Inv-loop μ-loop
 returns c =
     let t = c .before .loop in
-    let e : t .b ≡ runs (c .before .before .before .before .before .before .before .before .args .s) = omega (arith, t .inv .0, c .loop-test .left, c .before .before .before .run-count .ensures) in (
-      record { long = t .inv .1 .0; all = λ xs b z. subst (λ (x : ℕ). SolvedBelow (c .before .before .before .before .before .before .before .before .args .s) (c .before .before .before .before .before .before .before .before .args .p) xs x (t .slots)) e (t .inv .1 .1 .1 xs b z) },
-      t .inv .1 .1 .0,
-    )
+    let e : t .b ≡ runs (c .before .before .before .before .before .before .before .before .before .args .s) = omega (arith, t .inv .0, c .loop-test .left, c .before .before .before .before .before .run-count .ensures) in
+    record { long = t .inv .1 .0; all = λ xs b z. subst (λ (x : ℕ). SolvedBelow (c .before .before .before .before .before .before .before .before .before .args .s) (c .before .before .before .before .before .before .before .before .before .args .p) xs x (t .slots)) e (t .inv .1 .1 .1 xs b z) }
 
 pub solve-runs-spec : {M : Type 1} → statement M
 solve-runs-spec =
@@ -104,15 +119,19 @@ solve-runs-spec =
     row-weights-requires-2
     run-count-requires
     run-length-requires
+    mul-at
+    mul-d
     loop-holds
+    carry-requires
     array-share-prefix-points
-    slice-aggregate-solve-run
+    slice-aggregate-solve-slots
     array-share-prefix-weights
-    slice-aggregate-solve-run-2
-    solve-run-requires
+    slice-aggregate-solve-slots-2
+    mul-solve-slots
+    add-solve-slots
+    solve-slots-requires
     add-b
     loop-less
     loop-again
     same-length
-    same-length-2
     returns)

@@ -8,7 +8,7 @@ use Rattle.mending.proofs.scalars.product.Statement.{statement}
 use Rattle.mending.proofs.scalars.product.Tie as tie
 
 returns : tie.Need-returns
-returns c = sym (ap (λ (z : ℕ). z ⊗ c .before .before .args .y .0) (c .if1 .taken) ∙ one-mul (c .before .before .args .y .0) (search needs))
+returns c = sym (ap (λ (z : ℕ). z ⊗ c .before .args .y) (c .if1 .taken) ∙ one-mul (c .before .args .y) (search needs))
 
 product-requires : tie.Need-product-requires
 product-requires c κs = search needs

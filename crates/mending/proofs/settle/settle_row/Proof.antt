@@ -1,48 +1,64 @@
 -- `settle_row` meets its contract.
 use borrow.Author.Needs.{needs}
-use mathlib.Core.Path.{refl}
+use Prim.Native.Nat.{ℕ, _*_, _≤_}
+use mathlib.Core.Path.{sym, subst}
+use native.Mathlib.Nat.{add-zero, mul-le-mul}
 use native.Mathlib.Omega.{arith}
+use lib.ListN.{length}
 use Rattle.stripe.proofs.Allowed.{allowed}
+use Rattle.stripe.proofs.Errors.{points}
+use Rattle.mending.specs.Slots.{Sources, Gathered}
+use Rattle.mending.specs.Plan.{less, gone}
 use Rattle.mending.proofs.Planned.{first-few, step-few}
 use Rattle.mending.proofs.Added.{slot-ends}
-use Rattle.mending.proofs.Settled.{skip-settles, row-settles}
+use Rattle.mending.proofs.Settled.{skip-settles, finish-sources, row-settles}
 use Rattle.mending.proofs.settle.settle_row.Statement.{statement}
 use Rattle.mending.proofs.settle.settle_row.Tie as tie
 
 solves-requires : tie.Need-solves-requires
 solves-requires c κs =
-    let a = c .before .before .args in
-    let w = c .before .before .pre .0 .plan in
-    let f = allowed (a .s) (c .before .before .pre .0 .shape) in
+    let a = c .before .args in
+    let w = c .before .pre .0 .plan in
+    let f = allowed (a .s) (c .before .pre .0 .shape) in
     (omega (arith, w .many, w .few), (omega (arith, first-few (a .s) f (a .p) w), omega (arith, step-few (a .s) f (a .p) w)))
 
 returns : tie.Need-returns
-returns c = (skip-settles (c .before .before .before .before .args .s) (c .before .before .before .before .args .p) (c .before .before .before .before .args .j) _ (c .before .solves .ensures .so (c .if1 .taken)), refl)
+returns c = skip-settles (c .before .before .before .args .s) (c .before .before .before .args .p) (c .before .before .before .args .j) _ (c .before .solves .ensures .so (c .if1 .taken))
 
-finish-requires : tie.Need-finish-requires
-finish-requires c κs = let w = c .before .before .before .before .before .before .pre in (w .0, (w .1 .0, (w .1 .1, c .before .before .before .solves .ensures .not-so (c .before .before .if1 .left))))
+mul-add-row : tie.Need-mul-add-row
+mul-add-row c =
+    let w = c .before .before .before .before .pre in
+    let f = allowed (c .before .before .before .before .args .s) (w .0 .shape) in
+    let most : c .before .before .before .before .args .j * c .before .before .before .before .args .s .l ≤ 3 * 4096 = mul-le-mul {n₂ = 3} {m₂ = 4096} (omega (arith, w .1, f .parity-most)) (f .length-most) in
+    omega arith
+
+add-row-requires : tie.Need-add-row-requires
+add-row-requires c κs =
+    let a = c .before .before .before .before .args in
+    let w = c .before .before .before .before .pre in
+    let f = allowed (a .s) (w .0 .shape) in
+    let o = c .before .before .solves .ensures .not-so (c .before .if1 .left) in (
+      w .0,
+      (omega arith, (omega (arith, w .1, f .parity-most), (omega arith, subst (λ (z : ℕ). Sources (a .p .count) (a .j * a .s .l) z (a .p .step * a .s .l) (a .s .l) (length (a .slots .now))) (sym (add-zero _)) (finish-sources (a .s) f (a .p) (w .0 .plan) (a .j) (w .1) o _ (w .0 .long))))),
+    )
 
 clean-requires : tie.Need-clean-requires
 clean-requires c κs =
-    let a = c .before .before .before .before .before .before .before .before .before .before .before .before .args in
-    let w = c .before .before .before .before .before .before .before .before .before .before .before .before .pre in
+    let a = c .before .before .before .before .before .before .before .before .args in
+    let w = c .before .before .before .before .before .before .before .before .pre in
     let f = allowed (a .s) (w .0 .shape) in
-    (w .0 .plan .few, (f .data-most, (omega (arith, w .1 .1, f .parity-most), omega (arith, slot-ends (a .s) f (a .p) (w .0 .plan) (a .j) (w .1 .1), c .before .before .before .before .before .finish .ensures .0 .long, w .0 .long))))
+    (w .0 .plan .few, (f .data-most, (omega (arith, w .1, f .parity-most), omega (arith, slot-ends (a .s) f (a .p) (w .0 .plan) (a .j) (w .1), c .before .before .before .add-row .ensures .long, w .0 .long))))
 
 same-length : tie.Need-same-length
 same-length c = search needs
 
-same-length-2 : tie.Need-same-length-2
-same-length-2 c = search needs
-
 returns-2 : tie.Need-returns-2
 returns-2 c =
-    let a = c .before .before .before .before .before .before .before .before .before .before .before .before .before .args in
-    let w = c .before .before .before .before .before .before .before .before .before .before .before .before .before .pre in (
-      row-settles (a .s) (allowed (a .s) (w .0 .shape)) (a .p) (w .0 .plan) (a .j) (w .1 .1) (c .before .before .before .before .before .before .before .before .before .before .solves .ensures .not-so (c .before .before .before .before .before .before .before .before .before .if1 .left)) (a .slots .now) (c .before .before .before .before .before .before .finish .last .1 .1 .1 .0)
-          (c .before .before .before .before .before .before .finish .ensures .0) (c .clean .result) (λ i. c .before .before .before .before .slice-known3 .given i .fits) (c .clean .ensures),
-      c .before .before .before .before .before .before .finish .ensures .1,
-    )
+    let a = c .before .before .before .before .before .before .before .before .before .args in
+    let w = c .before .before .before .before .before .before .before .before .before .pre in
+    row-settles (a .s) (allowed (a .s) (w .0 .shape)) (a .p) (w .0 .plan) (a .j) (w .1) (c .before .before .before .before .before .before .before .solves .ensures .not-so (c .before .before .before .before .before .before .if1 .left)) (a .slots .now) (c .before .before .before .before .add-row .last .1 .1 .1 .1 .0)
+    (subst (λ (z : ℕ). Gathered (points (a .j) (less (a .p .pivot) (gone (a .s) (a .p)))) (a .j * a .s .l) z (a .p .step * a .s .l) (a .s .l) (a .slots .now) (c .before .before .before .before .add-row .last .1 .1 .1 .1 .0)) (add-zero _) (c .before .before .before .before .add-row .ensures))
+    (c .clean .result) (λ i. c .before .before .slice-known2 .given i .fits) (c .clean .ensures)
 
 pub settle-row-spec : {M : Type 1} → statement M
 settle-row-spec =
@@ -50,8 +66,8 @@ settle-row-spec =
     (tie.spec
     solves-requires
     returns
-    finish-requires
+    mul-add-row
+    add-row-requires
     clean-requires
     same-length
-    same-length-2
     returns-2)

@@ -1,8 +1,8 @@
 -- `solve_slots` meets its contract.
 use borrow.Author.Needs.{needs}
 use denote.Ref.{now}
-use Prim.Native.Nat.{_+_, _-_}
-use mathlib.Core.Path.{refl, sym, _∙_}
+use Prim.Native.Nat.{_-_}
+use mathlib.Core.Path.{sym, _∙_}
 use native.Mathlib.Omega.{arith}
 use lib.ListN.{length}
 use lib.Seq.{length-take-le}
@@ -19,16 +19,16 @@ use Rattle.mending.proofs.solve.set_apart.Reads as set-apart-reads
 use Rattle.mending.proofs.solve.+solve_slots.{statement}
 use Rattle.mending.proofs.solve.+solve_slots.Tie.{close}
 
-abbrev μ-solve-slots : Measures 4 solve-slots-kinds.ps ℕ
+abbrev μ-solve-slots : Measures 3 solve-slots-kinds.ps ℕ
 μ-solve-slots κs a = length (now (a .0))
 
-abbrev solve-slots-at : ℕ → In 4 solve-slots-kinds.ps
+abbrev solve-slots-at : ℕ → In 3 solve-slots-kinds.ps
 solve-slots-at t =
-    and 4 solve-slots-kinds.ps (is 4 solve-slots-kinds.ps μ-solve-slots t) solve-slots.Pre
+    and 3 solve-slots-kinds.ps (is 3 solve-slots-kinds.ps μ-solve-slots t) solve-slots.Pre
 
-abbrev solve-slots-below : ℕ → In 4 solve-slots-kinds.ps
+abbrev solve-slots-below : ℕ → In 3 solve-slots-kinds.ps
 solve-slots-below t =
-    and 4 solve-slots-kinds.ps (falls 4 solve-slots-kinds.ps _<_ μ-solve-slots t) solve-slots.Pre
+    and 3 solve-slots-kinds.ps (falls 3 solve-slots-kinds.ps _<_ μ-solve-slots t) solve-slots.Pre
 
 solve-slots-returns : (t : ℕ) → solve-slots-lts.Need-returns (
   clear-reads.Asked,
@@ -40,7 +40,7 @@ solve-slots-returns : (t : ℕ) → solve-slots-lts.Need-returns (
   first-value-reads.Asked,
   first-value-reads.Learnt,
 ) (solve-slots-at t) solve-slots.Post
-solve-slots-returns t c = (solved-none _ _ _ _ _ _ (c .if1 .taken), refl)
+solve-slots-returns t c = solved-none _ _ _ _ _ _ (c .if1 .taken)
 
 solve-slots-shared-slice-read-clear : (t : ℕ) → solve-slots-lts.Need-shared-slice-read-clear (
   clear-reads.Asked,
@@ -64,7 +64,7 @@ solve-slots-clear-requires : (t : ℕ) → solve-slots-lts.Need-clear-requires (
   first-value-reads.Asked,
   first-value-reads.Learnt,
 ) (solve-slots-at t) solve-slots.Post
-solve-slots-clear-requires t c κs = let w = c .before .before .before .before .before .before .before .before .pre .1 in (w .0, (some-of _ (c .before .before .before .if1 .left), w .1 .1))
+solve-slots-clear-requires t c κs = let w = c .before .before .before .before .before .before .pre .1 in (w .0, some-of _ (c .before .before .if1 .left))
 
 solve-slots-set-apart-requires : (t : ℕ) → solve-slots-lts.Need-set-apart-requires (
   clear-reads.Asked,
@@ -76,7 +76,7 @@ solve-slots-set-apart-requires : (t : ℕ) → solve-slots-lts.Need-set-apart-re
   first-value-reads.Asked,
   first-value-reads.Learnt,
 ) (solve-slots-at t) solve-slots.Post
-solve-slots-set-apart-requires t c κs = let w = c .before .before .before .before .before .before .before .before .before .before .before .before .before .pre .1 in (w .0 .few, w .1 .0)
+solve-slots-set-apart-requires t c κs = let w = c .before .before .before .before .before .before .before .before .before .pre .1 in (w .0 .few, w .1)
 
 solve-slots-sub-f : (t : ℕ) → solve-slots-lts.Need-sub-f (
   clear-reads.Asked,
@@ -136,7 +136,7 @@ solve-slots-array-share-prefix-w : (t : ℕ) → solve-slots-lts.Need-array-shar
   first-value-reads.Asked,
   first-value-reads.Learnt,
 ) (solve-slots-at t) solve-slots.Post
-solve-slots-array-share-prefix-w t c = omega (arith, c .before .set-apart .ensures .long, c .before .before .before .before .before .before .before .before .before .before .before .before .before .before .before .pre .1 .0 .few)
+solve-slots-array-share-prefix-w t c = omega (arith, c .before .set-apart .ensures .long, c .before .before .before .before .before .before .before .before .before .before .before .pre .1 .0 .few)
 
 solve-slots-slice-aggregate-solve-slots :
     (t : ℕ) → solve-slots-lts.Need-slice-aggregate-solve-slots (
@@ -150,8 +150,8 @@ solve-slots-slice-aggregate-solve-slots :
       first-value-reads.Learnt,
     ) (solve-slots-at t) solve-slots.Post
 solve-slots-slice-aggregate-solve-slots t c =
-    let bs = c .before .before .before .before .before .before .before .before .before .before .before .before .before .before .before .before .args .points .now in
-    sym (length-take-le (length bs - 1) (c .before .before .set-apart .result) (omega (arith, c .before .before .set-apart .ensures .long, c .before .before .before .before .before .before .before .before .before .before .before .before .before .before .before .before .pre .1 .0 .few)))
+    let bs = c .before .before .before .before .before .before .before .before .before .before .before .before .args .points .now in
+    sym (length-take-le (length bs - 1) (c .before .before .set-apart .result) (omega (arith, c .before .before .set-apart .ensures .long, c .before .before .before .before .before .before .before .before .before .before .before .before .pre .1 .0 .few)))
 
 solve-slots-add-solve-slots : (t : ℕ) → solve-slots-lts.Need-add-solve-slots (
   clear-reads.Asked,
@@ -163,7 +163,7 @@ solve-slots-add-solve-slots : (t : ℕ) → solve-slots-lts.Need-add-solve-slots
   first-value-reads.Asked,
   first-value-reads.Learnt,
 ) (solve-slots-at t) solve-slots.Post
-solve-slots-add-solve-slots t c = let w = c .before .before .before .before .before .before .before .before .before .before .before .before .before .before .before .before .before .pre .1 .0 in omega (arith, w .room 0 (some-of _ (c .before .before .before .before .before .before .before .before .before .before .before .before .if1 .left)), w .small, w .step)
+solve-slots-add-solve-slots t c = let w = c .before .before .before .before .before .before .before .before .before .before .before .before .before .pre .1 .0 in omega (arith, w .room 0 (some-of _ (c .before .before .before .before .before .before .before .before .before .if1 .left)), w .small, w .step)
 
 solve-slots-solve-slots-requires : (t : ℕ) → solve-slots-lts.Need-solve-slots-requires (
   clear-reads.Asked,
@@ -176,16 +176,16 @@ solve-slots-solve-slots-requires : (t : ℕ) → solve-slots-lts.Need-solve-slot
   first-value-reads.Learnt,
 ) (solve-slots-at t) solve-slots.Post
 solve-slots-solve-slots-requires t c κs =
-    let a = c .before .before .before .before .before .before .before .before .before .before .before .before .before .before .before .before .before .before .args in
-    let w = c .before .before .before .before .before .before .before .before .before .before .before .before .before .before .before .before .before .before .pre .1 in
+    let a = c .before .before .before .before .before .before .before .before .before .before .before .before .before .args in
+    let w = c .before .before .before .before .before .before .before .before .before .before .before .before .before .pre .1 in
     let bs = a .points .now in
-    let some = some-of _ (c .before .before .before .before .before .before .before .before .before .before .before .before .before .if1 .left) in
-    let k = c .before .before .before .before .before .before .before .before .before .clear .ensures in
-    let ap′ = c .before .before .before .before .set-apart in (
-      omega (arith, c .before .before .before .before .before .before .before .before .before .before .before .before .before .before .before .before .before .before .pre .0, rest-long bs, some),
+    let some = some-of _ (c .before .before .before .before .before .before .before .before .before .if1 .left) in
+    let k = c .before .before .before .before .before .before .clear .ensures in
+    let ap′ = c .before .before .before .set-apart in (
+      omega (arith, c .before .before .before .before .before .before .before .before .before .before .before .before .before .pre .0, rest-long bs, some),
       (
-        spaced-as _ _ _ _ _ _ _ (rest-long bs) (sym (k .0 .long)) (spaced-rest (length bs) (a .at) (a .d) (a .n) _ (w .0) some),
-        (length-take-le (length bs - 1) (ap′ .result) (omega (arith, ap′ .ensures .long, w .0 .few)) ∙ rest-long bs, omega (arith, k .1, w .1 .1)),
+        spaced-as _ _ _ _ _ _ _ (rest-long bs) (sym (k .long)) (spaced-rest (length bs) (a .at) (a .d) (a .n) _ (w .0) some),
+        length-take-le (length bs - 1) (ap′ .result) (omega (arith, ap′ .ensures .long, w .0 .few)) ∙ rest-long bs,
       ),
     )
 
@@ -200,12 +200,12 @@ solve-slots-first-value-requires : (t : ℕ) → solve-slots-lts.Need-first-valu
   first-value-reads.Learnt,
 ) (solve-slots-at t) solve-slots.Post
 solve-slots-first-value-requires t c κs =
-    let w = c .before .before .before .before .before .before .before .before .before .before .before .before .before .before .before .before .before .before .before .before .before .before .before .before .before .pre .1 in
-    let k = c .before .before .before .before .before .before .before .before .before .before .before .before .before .before .before .before .clear .ensures in
-    let s = c .before .before .before .before .before .before .solve-slots .ensures in
-    let some = some-of _ (c .before .before .before .before .before .before .before .before .before .before .before .before .before .before .before .before .before .before .before .before .if1 .left) in (
-      spaced-as _ _ _ _ _ _ _ (sym (w .1 .0)) (sym (s .0 .long ∙ k .0 .long)) (w .0),
-      (omega (arith, some, w .1 .0), omega (arith, s .1, k .1, w .1 .1)),
+    let w = c .before .before .before .before .before .before .before .before .before .before .before .before .before .before .before .before .before .pre .1 in
+    let k = c .before .before .before .before .before .before .before .before .before .before .clear .ensures in
+    let s = c .before .before .before .solve-slots .ensures in
+    let some = some-of _ (c .before .before .before .before .before .before .before .before .before .before .before .before .before .if1 .left) in (
+      spaced-as _ _ _ _ _ _ _ (sym (w .1)) (sym (s .long ∙ k .long)) (w .0),
+      omega (arith, some, w .1),
     )
 
 solve-slots-same-length : (t : ℕ) → solve-slots-lts.Need-same-length (
@@ -220,18 +220,6 @@ solve-slots-same-length : (t : ℕ) → solve-slots-lts.Need-same-length (
 ) (solve-slots-at t) solve-slots.Post
 solve-slots-same-length t c = search needs
 
-solve-slots-same-length-2 : (t : ℕ) → solve-slots-lts.Need-same-length-2 (
-  clear-reads.Asked,
-  clear-reads.Learnt,
-  set-apart-reads.Asked,
-  set-apart-reads.Learnt,
-  solve-slots-below t,
-  solve-slots.Post,
-  first-value-reads.Asked,
-  first-value-reads.Learnt,
-) (solve-slots-at t) solve-slots.Post
-solve-slots-same-length-2 t c = search needs
-
 solve-slots-returns-2 : (t : ℕ) → solve-slots-lts.Need-returns-2 (
   clear-reads.Asked,
   clear-reads.Learnt,
@@ -243,15 +231,13 @@ solve-slots-returns-2 : (t : ℕ) → solve-slots-lts.Need-returns-2 (
   first-value-reads.Learnt,
 ) (solve-slots-at t) solve-slots.Post
 solve-slots-returns-2 t c =
-    let a = c .before .before .before .before .before .before .before .before .before .before .before .before .before .before .before .before .before .before .before .before .before .before .before .before .before .before .before .before .before .before .args in
-    let w = c .before .before .before .before .before .before .before .before .before .before .before .before .before .before .before .before .before .before .before .before .before .before .before .before .before .before .before .before .before .before .pre .1 in
-    let k = c .before .before .before .before .before .before .before .before .before .before .before .before .before .before .before .before .before .before .before .before .before .clear in
-    let s = c .before .before .before .before .before .before .before .before .before .before .before .solve-slots in
-    let f = c .before .before .before .before .first-value in (
-      solved-turn (a .points .now) (a .weights .now) (a .at) (a .d) (a .n) (a .slots .now) (k .last .1 .1 .0) (c .before .before .before .before .before .before .before .before .before .before .before .before .before .before .before .before .set-apart .result) (s .last .1 .1 .0) (f .last .1 .0)
-          (c .before .before .before .before .before .before .before .before .before .before .before .before .before .before .before .before .before .before .before .before .before .before .before .before .before .if1 .left) (w .1 .0) (w .0 .few) (w .0 .wide) (k .ensures .0) (c .before .before .before .before .before .before .before .before .before .before .before .before .before .before .before .before .set-apart .ensures) (s .ensures .0) (f .ensures .0),
-      f .ensures .1 ∙ s .ensures .1 ∙ k .ensures .1,
-    )
+    let a = c .before .before .before .before .before .before .before .before .before .before .before .before .before .before .before .before .before .before .before .before .args in
+    let w = c .before .before .before .before .before .before .before .before .before .before .before .before .before .before .before .before .before .before .before .before .pre .1 in
+    let k = c .before .before .before .before .before .before .before .before .before .before .before .before .before .clear in
+    let s = c .before .before .before .before .before .before .solve-slots in
+    let f = c .before .before .first-value in
+    solved-turn (a .points .now) (a .weights .now) (a .at) (a .d) (a .n) (a .slots .now) (k .last .1 .1 .0) (c .before .before .before .before .before .before .before .before .before .before .set-apart .result) (s .last .1 .1 .0) (f .last .1 .0)
+    (c .before .before .before .before .before .before .before .before .before .before .before .before .before .before .before .before .if1 .left) (w .1) (w .0 .few) (w .0 .wide) (k .ensures) (c .before .before .before .before .before .before .before .before .before .before .set-apart .ensures) (s .ensures) (f .ensures)
 
 pub +solve-slots-spec : {M : Type 1} → statement M
 +solve-slots-spec = close μ-solve-slots λ t. solve-slots-lts.spec (
@@ -280,5 +266,4 @@ pub +solve-slots-spec : {M : Type 1} → statement M
     (solve-slots-solve-slots-requires t)
     (solve-slots-first-value-requires t)
     (solve-slots-same-length t)
-    (solve-slots-same-length-2 t)
     (solve-slots-returns-2 t)

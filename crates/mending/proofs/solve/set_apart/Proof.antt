@@ -1,6 +1,6 @@
 -- `set_apart` meets its contract.
 use Prim.Native.Nat.{ℕ, _+_, _≤_, _<_, _-_}
-use mathlib.Core.Path.{_≡_, refl, ap, _∙_}
+use mathlib.Core.Path.{_≡_, refl}
 use native.Mathlib.Omega.{arith}
 use lib.ListN.{length, getD, length-set}
 use borrow.Author.Needs.{needs}
@@ -19,17 +19,14 @@ abbrev μ-loop : tie.MeasureT-loop
 loop-holds : tie.Need-loop-holds Inv-loop μ-loop
 loop-holds c = (search needs, (refl, λ u l. absurd (omega arith)))
 
-shared-slice-read-t10 : tie.Need-shared-slice-read-t10 Inv-loop μ-loop
-shared-slice-read-t10 c = search needs
+shared-slice-read-product : tie.Need-shared-slice-read-product Inv-loop μ-loop
+shared-slice-read-product c = search needs
 
-shared-slice-read-t13 : tie.Need-shared-slice-read-t13 Inv-loop μ-loop
-shared-slice-read-t13 c = search needs
+shared-slice-read-product-2 : tie.Need-shared-slice-read-product-2 Inv-loop μ-loop
+shared-slice-read-product-2 c = search needs
 
-sum-requires : tie.Need-sum-requires Inv-loop μ-loop
-sum-requires c κs = search needs
-
-shared-slice-read-t10-2 : tie.Need-shared-slice-read-t10-2 Inv-loop μ-loop
-shared-slice-read-t10-2 c = search needs
+shared-slice-read-product-3 : tie.Need-shared-slice-read-product-3 Inv-loop μ-loop
+shared-slice-read-product-3 c = search needs
 
 product-requires : tie.Need-product-requires Inv-loop μ-loop
 product-requires c κs = search needs
@@ -47,13 +44,14 @@ loop-less : tie.Need-loop-less Inv-loop μ-loop
 loop-less c = search needs
 
 loop-again : tie.Need-loop-again Inv-loop μ-loop
+unfolding _⊕_
 loop-again c =
-    let at = c .before .before .before .before .before .before in (
+    let a = c .before .before .before .before .before .before .before .before .args in
+    let l = c .before .before .before .before .before .loop in (
       search needs,
       (
-        simp length-set (at .loop .inv .1 .0),
-        setting-turn (at .before .before .before .args .points .now) (at .before .before .before .args .weights .now) (at .loop .w) (at .loop .v) _ (at .loop .inv .0) (c .before .before .before .before .before .loop-test .taken) (at .before .before .before .pre .0) (at .loop .inv .1 .0) (at .loop .inv .1 .1)
-            (c .product .ensures ∙ ap (λ (x : ℕ). getD (at .before .before .before .args .weights .now) (at .loop .v) 0 ⊗ x) (c .before .before .sum .ensures)),
+        simp length-set (l .inv .1 .0),
+        setting-turn (a .points .now) (a .weights .now) (l .w) (l .v) _ (l .inv .0) (c .before .before .before .before .loop-test .taken) (c .before .before .before .before .before .before .before .before .pre .0) (l .inv .1 .0) (l .inv .1 .1) (c .product .ensures),
       ),
     )
 
@@ -69,10 +67,9 @@ set-apart-spec =
     Inv-loop
     μ-loop
     loop-holds
-    shared-slice-read-t10
-    shared-slice-read-t13
-    sum-requires
-    shared-slice-read-t10-2
+    shared-slice-read-product
+    shared-slice-read-product-2
+    shared-slice-read-product-3
     product-requires
     sub-w
     array-write-w

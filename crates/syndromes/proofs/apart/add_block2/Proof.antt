@@ -1,4 +1,5 @@
 -- `add_block2` meets its contract: each block is added to its row.
+use native.Mathlib.Omega.{arith}
 use borrow.Author.Needs.{needs}
 use Rattle.syndromes.proofs.Upwards.{added-2}
 use Rattle.syndromes.proofs.apart.add_block2.Statement.{statement}
@@ -23,7 +24,7 @@ returns : tie.Need-returns
 returns c =
     let h = c .before .before .before .before .before .before .before .before .before .before .before .before .before .before .before .pre in
     let v = c .before .before .before .before .before .before .before .before .before .before .before .before .below2 .ensures in
-    added-2 _ _ _ _ _ _ (h .0 .fits) (h .0 .within) _ _ _ _ (v .0) (v .1) (c .before .before .before .before .before .before .before .before .plus .ensures) _ (c .before .before .plus2 .ensures) (h .1)
+    added-2 _ _ _ _ _ _ (omega (arith, h .0 .fits, h .1 .0)) (h .0 .within) _ _ _ _ (λ q p. v .0 q (omega (arith, p, h .1 .0))) (λ q p. v .1 q (omega (arith, p, h .1 .0))) (c .before .before .before .before .before .before .before .before .plus .ensures) _ (c .before .before .plus2 .ensures) (h .1 .1)
 
 pub add-block2-spec : {M : Type 1} → statement M
 add-block2-spec =

@@ -1,5 +1,6 @@
 -- `bytes_at` meets its contract: the part is copied over zeros.
 use Prim.Native.Nat.{ℕ}
+use native.Mathlib.Omega.{arith}
 use lib.ListN.{length-replicate}
 use Rattle.syndromes.proofs.Upwards.{copied}
 use borrow.Author.Needs.{needs}
@@ -27,7 +28,7 @@ copy-requires c κs = search needs
 returns : tie.Need-returns
 returns c =
     let a = c .before .before .before .before .before .args in
-    copied _ _ _ (a .at) (a .n) 64 (c .before .before .before .before .before .pre .0) (c .before .before .before .before .before .pre .1) (length-replicate {A = ℕ} 64 0) (c .before .copy .ensures)
+    copied _ _ _ (a .at) 64 64 (c .before .before .before .before .before .pre) (omega arith) (length-replicate {A = ℕ} 64 0) (c .before .copy .ensures)
 
 pub bytes-at-spec : {M : Type 1} → statement M
 bytes-at-spec =

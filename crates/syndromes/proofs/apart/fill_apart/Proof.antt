@@ -35,7 +35,7 @@ add-below-requires c κs =
     let s = c .before .before .before .before .before .before .before .before .before in
     let n = c .before .before .before .before .before .before .new .ensures in
     let up = encoded-upper (c .before .before .before .before .before .before .new .result) _ _ (c .before .before .before .encode .last .1 .1 .0) _ _ _ _ (s .pre) (n .0) (n .1 .0) (n .1 .1 .0) (n .1 .1 .1) (c .before .before .before .encode .ensures .1) in
-    (s .pre .long, (omega (arith, s .pre .within), (s .pre .some, (s .pre .most, up))))
+    (s .pre .long, (omega (arith, s .pre .within), (s .pre .some, (s .pre .most, (s .pre .length-some, up)))))
 
 same-length : tie.Need-same-length
 same-length c = search needs

@@ -1,0 +1,69 @@
+-- `is_lost` meets its contract.
+use borrow.Author.Needs.{needs}
+use Prim.Native.Nat.{ℕ, _-_, _≤_, _<_}
+use mathlib.Core.Path.{_≡_, sym, _∙_}
+use mathlib.Core.List.{[], _∷_}
+use native.Mathlib.Omega.{arith}
+use borrow.Author.Count.{below-more}
+use lib.ListN.{getD, length, length-map}
+use denote.Laws.{Is}
+use denote.Struct.Laws as LL
+use Rattle.lost.specs.declared.Lost.{Lost}
+use Rattle.lost.proofs.Lost as T
+use Rattle.lost.proofs.Lost.Laws as T′
+use Rattle.mending.proofs.Among.{found, none}
+use Rattle.mending.proofs.survivors.is_lost.Statement.{statement}
+use Rattle.mending.proofs.survivors.is_lost.Tie as tie
+
+-- what owning a `Lost` tells of the length of its array
+three-at : (l : Lost) → Is T.the-row l (LL.val T.the-type T′.the-laws l ∷ []) → length (l .at) ≡ 3
+three-at l p = sym (length-map (l .at) (λ v. v)) ∙ LL.owed T.the-type T′.the-laws l _ p .0 .1 .0 .1
+
+abbrev Inv-loop : tie.InvT-loop
+Inv-loop c at count v₀ v = (v ≤ count) × ((count ≤ 3) × ((u : ℕ) → u < v → getD at u 0 ≡ c → ⊥))
+
+abbrev μ-loop : tie.MeasureT-loop
+μ-loop c at count v₀ v = count - v
+
+loop-holds : tie.Need-loop-holds Inv-loop μ-loop
+loop-holds c = search needs
+
+mul-if1 : tie.Need-mul-if1 Inv-loop μ-loop
+mul-if1 c = search needs
+
+array-read-if1 : tie.Need-array-read-if1 Inv-loop μ-loop
+array-read-if1 c = search needs
+
+returns : tie.Need-returns Inv-loop μ-loop
+returns c =
+    let a = c .before .before .before .before .args in
+    found (a .lost .at) (a .lost .count) (a .c) (c .before .before .loop .v) (search needs) (omega (arith, three-at (a .lost) (c .before .before .before .before .good .0))) (c .if1 .taken)
+
+add-v : tie.Need-add-v Inv-loop μ-loop
+add-v c = search needs
+
+loop-less : tie.Need-loop-less Inv-loop μ-loop
+loop-less c = search needs
+
+loop-again : tie.Need-loop-again Inv-loop μ-loop
+loop-again c = (search needs, (search needs, below-more _ _ (c .before .before .loop .inv .1 .1) (c .if1 .left)))
+
+returns-2 : tie.Need-returns-2 Inv-loop μ-loop
+returns-2 c =
+    let a = c .before .before .before .args in
+    none (a .lost .at) (a .lost .count) (a .c) (λ j w. c .before .loop .inv .1 .1 j (omega arith)) (omega (arith, three-at (a .lost) (c .before .before .before .good .0)))
+
+pub is-lost-spec : {M : Type 1} → statement M
+is-lost-spec =
+    tie.close
+    (tie.spec
+    Inv-loop
+    μ-loop
+    loop-holds
+    mul-if1
+    array-read-if1
+    returns
+    add-v
+    loop-less
+    loop-again
+    returns-2)

@@ -22,8 +22,8 @@ use Rattle.plan.specs.declared.Kind.the-variants.{A, B, C}
 use Rattle.plan.specs.Plan.{foldRefusal, kindOf, bytesEach}
 use Rattle.plan.proofs.Foldable.{IsA, IsB, IsC, new-kinds, tests-passed, runs-whole}
 use Rattle.plan.proofs.Counted.{runs-sum}
-use Rattle.fold.specs.declared.steps.Share.{Share}
-use Rattle.fold.specs.declared.steps.Share.the-variants.{Read, Row, Both}
+use Rattle.fold.specs.declared.shares.Share.{Share}
+use Rattle.fold.specs.declared.shares.Share.the-variants.{Read, Row, Both}
 use Rattle.fold.specs.Fold.{runBytes, partBytes, readParity, readRow, runShare, share}
 use Rattle.fold.specs.Shares.{ReadsParity, IsRows, shareAt, Within, kept, Summed, shareOf, taken}
 

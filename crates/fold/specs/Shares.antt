@@ -14,8 +14,8 @@ use Rattle.stripe.specs.Shape.{shapeRefusal}
 use Rattle.stripe.specs.Stripe.{across}
 use Rattle.plan.specs.declared.Kind.the-variants.{C}
 use Rattle.plan.specs.Plan.{foldRefusal, newAllowed, kindOf, bytesRead}
-use Rattle.fold.specs.declared.steps.Share.{Share}
-use Rattle.fold.specs.declared.steps.Share.the-variants.{Read, Row, Both}
+use Rattle.fold.specs.declared.shares.Share.{Share}
+use Rattle.fold.specs.declared.shares.Share.the-variants.{Read, Row, Both}
 use Rattle.fold.specs.Fold.{runBytes, partBytes, share, foldOf}
 
 -- a fold that reads parity, of an allowed shape and an allowed f

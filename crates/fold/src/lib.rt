@@ -6,15 +6,15 @@ ghost use Rattle.plan.specs.Plan.{foldRefusal, bytesRead};
 ghost use Rattle.fold.specs.Fold.{foldOf};
 ghost use Rattle.fold.specs.Shares.{foldVerdict, foldFilled};
 use coding::encode::encode;
+use counts::bytes_read;
 use plan::Kind;
-use plan::bytes_read;
 use plan::fold_refusal;
 use plan::kind_of;
 use plan::wide_shape;
 use stripe::Shape;
 
 mod runs;
-mod steps;
+mod shares;
 mod stripes;
 
 // The refusal of a fold that is lent a bytes to read and b to fill: 1 to 4, then 5 for a length other than stated, else 0.

@@ -6,8 +6,8 @@ ghost use Rattle.stripe.specs.Shape.{shapeRefusal};
 ghost use Rattle.stripe.specs.Stripe.{runs};
 ghost use Rattle.plan.specs.Plan.{kindOf, bytesEach};
 ghost use Rattle.fold.specs.Shares.{ReadsParity, IsRows, shareOf, taken};
-use crate::steps::Share;
-use crate::steps::take_share;
+use crate::shares::Share;
+use crate::shares::take_share;
 use stripe::Shape;
 
 // How many runs a column is cut into.

@@ -1,11 +1,11 @@
 -- The verdicts on a fold in their order: the first test that fails gives the number.
 use mathlib.Core.Path.{_≡_, sym, ap, ap₂, _∙_}
 use mathlib.Core.Bool.{Bool, true, false, cond}
-use Prim.Native.Nat.{ℕ, _-_, _*_, _<_, _≤_, _^_}
-use borrow.Author.Tests.{eq-eqb, ne-eqb, lt-ltb, le-ltb}
+use Prim.Native.Nat.{ℕ, _*_}
+use borrow.Author.Tests.{eq-eqb, ne-eqb}
 use Rattle.stripe.specs.declared.Shape.{Shape}
 use Rattle.stripe.specs.Shape.{shapeRefusal}
-use Rattle.plan.specs.Plan.{foldRefusal, stripesAllowed, newAllowed, capped, wideShape, wideAnswer, columnsEach, bytesEach, columnsRead, bytesRead, kindOf}
+use Rattle.plan.specs.Plan.{foldRefusal, stripesAllowed, newAllowed, wideShape, wideAnswer, columnsEach, bytesEach, columnsRead, bytesRead, kindOf}
 use Rattle.plan.proofs.Foldable.{all-passed}
 
 module _ (s : Shape) (n f : ℕ) where
@@ -49,11 +49,3 @@ module _ (s : Shape) (n f : ℕ) where
   pub a-shape : foldRefusal s n f ≡ 0 → wideAnswer s n f ≡ wideShape s n f
   unfolding wideAnswer
   a-shape e = ap (λ (b : Bool). cond b (wideShape s n f) (record { k = 0; r = 0; t = 0; l = 0 })) (eq-eqb (foldRefusal s n f) 0 e)
-
--- ---- sums of counts
-
-pub capped-is : (n : ℕ) → n < 2 ^ 64 → n ≡ capped n
-capped-is n h = sym (ap (λ (b : Bool). cond b n (2 ^ 64 - 1)) (lt-ltb n (2 ^ 64) h))
-
-pub capped-most : (n : ℕ) → 2 ^ 64 ≤ n → 2 ^ 64 - 1 ≡ capped n
-capped-most n h = sym (ap (λ (b : Bool). cond b n (2 ^ 64 - 1)) (le-ltb n (2 ^ 64) h))

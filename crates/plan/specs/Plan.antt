@@ -93,10 +93,6 @@ bytesRead s n f = cond (eqb (foldRefusal s n f) 0) (n * bytesEach (kindOf s f) s
 abbrev pub conversionBandwidth : Shape → ℕ → ℕ → ℕ
 conversionBandwidth s n f = bytesRead s n f
 
--- a sum of counts, or 2^64-1 where it does not fit
-abbrev pub capped : ℕ → ℕ
-capped n = cond (ltb n (2 ^ 64)) n (2 ^ 64 - 1)
-
 -- the shape of the wide stripe: plain, all data columns, f parity columns, L bytes to a column
 abbrev pub wideShape : Shape → ℕ → ℕ → Shape
 wideShape s n f = record { k = n * s .k; r = f; t = 0; l = s .l }

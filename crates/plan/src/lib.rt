@@ -1,15 +1,10 @@
-// The plan of a fold: N stripes of one shape become one wide stripe with f parity columns. The plan says which bytes a fold reads
-// and how many. Every function is total: what is refused reads nothing.
+// The plan of a fold: N stripes of one shape become one wide stripe with f parity columns. The plan says which bytes a fold reads;
+// crate `counts` says how many. Every function is total: what is refused reads nothing.
 ghost use mathlib.Core.Path.{_≡_};
 ghost use Prim.Native.Nat.{_*_, _<_, _≤_};
 ghost use Rattle.stripe.specs.Shape.{shapeRefusal};
-ghost use Rattle.plan.specs.Plan.{foldRefusal, stripesAllowed, newAllowed, kindOf, columnsEach, bytesEach, columnsRead, bytesRead, columnSpan, spanAt, wideAnswer};
+ghost use Rattle.plan.specs.Plan.{foldRefusal, stripesAllowed, newAllowed, kindOf, columnsEach, columnsRead, columnSpan, spanAt, wideAnswer};
 use stripe::Shape;
-
-pub mod counts;
-
-use counts::Bytes;
-use counts::Columns;
 
 // The kinds of folds. A reads parity columns, B runs of the data and the parity, C the data.
 pub enum Kind {
@@ -103,41 +98,14 @@ fn columns_each(s: Shape, f: usize) -> usize
     }
 }
 
-// How many bytes are read of each stripe.
-fn bytes_each(s: Shape, f: usize) -> usize
-    requires { ⌜ (shapeRefusal s ≡ 0) × (f ≤ 3) ⌝ }
-    ensures { λ v. ⌜ v ≡ bytesEach (kindOf s f) s f ⌝ }
-{
-    let k = s.k;
-    let r = s.r;
-    let t = s.t;
-    let l = s.l;
-    let kind = kind_of(s, f);
-    match kind {
-        Kind::A => f * l,
-        Kind::B => (r * t + k * (t - r)) * (l / t),
-        Kind::C => k * l,
-    }
-}
-
-// How many columns the plan reads; none where the fold is refused.
-pub fn columns_read(s: Shape, stripes: usize, f: usize) -> Columns
-    ensures { λ v. ⌜ v .0 ≡ columnsRead s stripes f ⌝ }
+// How many spans the plan has, one for each column read; none where the fold is refused.
+pub fn span_count(s: Shape, stripes: usize, f: usize) -> usize
+    ensures { λ v. ⌜ v ≡ columnsRead s stripes f ⌝ }
 {
     if fold_refusal(s, stripes, f) != 0 {
-        return Columns::of(0);
+        return 0;
     }
-    Columns::of((stripes * columns_each(s, f)) as u64)
-}
-
-// How many bytes the plan reads, which is the length of the fold's input; none where the fold is refused.
-pub fn bytes_read(s: Shape, stripes: usize, f: usize) -> Bytes
-    ensures { λ v. ⌜ v .0 ≡ bytesRead s stripes f ⌝ }
-{
-    if fold_refusal(s, stripes, f) != 0 {
-        return Bytes::of(0);
-    }
-    Bytes::of((stripes * bytes_each(s, f)) as u64)
+    stripes * columns_each(s, f)
 }
 
 // The span of the column that is number i of those read of stripe n.
@@ -180,7 +148,7 @@ fn span_of(stripe: usize, position: usize, first: usize, length: usize) -> Span
 pub fn span_at(s: Shape, stripes: usize, f: usize, i: usize) -> Span
     ensures { λ v. ⌜ v ≡ spanAt s stripes f i ⌝ }
 {
-    if columns_read(s, stripes, f).number() <= i as u64 {
+    if span_count(s, stripes, f) <= i {
         return span_of(0, 0, 0, 0);
     }
     let each = columns_each(s, f);

@@ -1,13 +1,14 @@
 // The calls of the shelf daemon, for C: numbers and byte slices come in, 0 or the number of a refusal goes back. `c/shelf.h`
 // documents them. Each is thin over a proved function of a crate below, and refuses bad numbers and lengths itself.
 use coding::encode::encode;
+use counts::bytes_read;
+use counts::columns_read;
 use fold::fold;
 use mending::mend;
 use plan::Span;
-use plan::bytes_read;
-use plan::columns_read;
 use plan::fold_refusal;
 use plan::span_at;
+use plan::span_count;
 use stripe::Shape;
 ghost use mathlib.Core.Path.{_≡_};
 ghost use lib.ListN.{length};
@@ -118,14 +119,11 @@ fn spans_answer(k: u64, r: u64, t: u64, l: u64, stripes: u64, f: u64, room: usiz
     if no != 0 {
         return Answer { no: no, spans: 0 };
     }
-    let n = columns_read(s, stripes as usize, f as usize).number();
-    if (room as u64) < n {
+    let spans = span_count(s, stripes as usize, f as usize);
+    if room < spans {
         return Answer { no: 5, spans: 0 };
     }
-    Answer {
-        no: 0,
-        spans: n as usize,
-    }
+    Answer { no: 0, spans }
 }
 
 // Span number i of the plan.

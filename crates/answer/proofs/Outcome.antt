@@ -5,9 +5,10 @@ use mathlib.Core.Bool.{Bool, true, false, cond}
 use mathlib.Core.Logic.{_⊎_, inl, inr}
 use mathlib.Core.List.{List, []}
 use native.Mathlib.Omega.{arith}
-use borrow.Author.Tests.{eqb-true, eqb-false, ne-eqb, leb-true, leb-false}
+use borrow.Author.Tests.{ne-eqb, leb-true, leb-false}
 use lib.Dec.{eqb, leb}
 use lib.ListN.{length}
+use Rattle.field.proofs.Cases.{zero-or-not}
 use Rattle.record.specs.Reading.{readRefusal, shapeOf, countOf, lostOf}
 use Rattle.mending.specs.Mend.{Mended}
 use Rattle.mending.proofs.Outcome.{mended-one}
@@ -18,13 +19,6 @@ use Rattle.text.proofs.Over.{over-least}
 use Rattle.text.proofs.Printed.{printed-refusal}
 
 -- ---- one outcome
-
-pub zero-or-not : (n : ℕ) → (n ≡ 0) ⊎ (n ≡ 0 → ⊥)
-zero-or-not n = go (eqb n 0) refl
-  where
-    go : (b : Bool) → eqb n 0 ≡ b → (n ≡ 0) ⊎ (n ≡ 0 → ⊥)
-    go true e = inl (eqb-true n 0 e)
-    go false e = inr (eqb-false n 0 e)
 
 pub outcome-one : (bs : List ℕ) (a b v v′ : ℕ) (ys ys′ : List ℕ) → RecordMended bs a b v ys → RecordMended bs a b v′ ys′ → (v ≡ v′) × (ys ≡ ys′)
 outcome-one bs a b v v′ ys ys′ m m′ = go (zero-or-not (readRefusal bs a b))

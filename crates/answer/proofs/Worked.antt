@@ -8,6 +8,7 @@ use native.Mathlib.Omega.{arith}
 use borrow.Author.Tests.{eq-eqb, le-leb}
 use lib.ListN.{length, take}
 use lib.Seq.{take-at}
+use Rattle.field.proofs.Cases.{zero-or-not}
 use Rattle.stripe.specs.declared.Shape.{Shape}
 use Rattle.stripe.specs.Shape.{shapeRefusal, columns, stripeLength}
 use Rattle.record.specs.declared.read.Got.{Got}
@@ -19,7 +20,7 @@ use Rattle.text.specs.Text.{over, stripeText, refusalText, printable, stripePri
 use Rattle.answer.specs.Answer.{pairs, blankStripe, described, RecordMended, answerOf, Worked, Answered, Printed}
 use Rattle.answer.proofs.Reading.{blank-long, whole, got-number, got-whole, read-says, count-most, read-shaped}
 use Rattle.text.proofs.Printed.{printed}
-use Rattle.answer.proofs.Outcome.{zero-or-not, outcome-read, outcome-lent, printed-front}
+use Rattle.answer.proofs.Outcome.{outcome-read, outcome-lent, printed-front}
 
 lost-long : (bs : List ℕ) → length (lostOf bs) ≡ countOf bs
 lost-long bs = positions-length bs (countOf bs) _

@@ -1,2 +1,4 @@
+pub mod Comparing
 pub mod Where
+pub mod Numbers
 pub mod Unique

@@ -1,61 +1,27 @@
--- Where a stripe is wrong: two lists agree and are equal, or their first difference is within them; nowhere is said exactly of a codeword.
-use Prim.Native.Nat.{ℕ, zero, suc, _-_, _/_, _%_, _<_, _≤_}
+-- Where a stripe is wrong: its parity agrees with that of its data, or first differs within; nowhere is said exactly of a codeword.
+use Prim.Native.Nat.{ℕ, _-_, _/_, _%_, _≤_}
 use mathlib.Core.Path.{_≡_, refl, sym, ap, _∙_}
-use mathlib.Core.Bool.{Bool, true, false, cond, _&&_}
-use mathlib.Core.List.{List, [], _∷_, _++_}
-use native.Mathlib.Nat.{suc-inj, suc-ne-zero, add-mul}
+use mathlib.Core.Bool.{Bool, true, false, cond}
+use mathlib.Core.List.{List, _++_}
+use native.Mathlib.Nat.{suc-ne-zero, add-mul}
 use native.Mathlib.Omega.{arith}
 use borrow.Author.Tests.{eq-eqb, ne-eqb, eqb-true, eqb-false, lt-ltb, le-ltb}
 use lib.Dec.{eqb}
 use lib.ListN.{length, take, drop, length-append, length-take, length-drop}
 use lib.Seq.{take-at, drop-at}
 use Rattle.field.specs.Bytes.{Bytes}
-use Rattle.lanes.specs.Lanes.{agree, firstDifference}
+use Rattle.field.proofs.Bytes.{append-bytes}
 use Rattle.stripe.specs.declared.Shape.{Shape}
 use Rattle.checking.specs.declared.Wrong.the-variants.{Nowhere, At, Refused}
 use Rattle.stripe.specs.Shape.{shapeRefusal, dataLength, parityLength}
 use Rattle.stripe.specs.Stripe.{parity, Codeword}
 use Rattle.stripe.specs.Column.{lentRefusal}
+use Rattle.checking.specs.Compare.{agree, firstDifference}
 use Rattle.checking.specs.Check.{numberOf, whereIs, firstWrong}
 use Rattle.stripe.proofs.Allowed.{allowed}
 use Rattle.stripe.proofs.Places.{parity-length}
 use Rattle.stripe.proofs.Lent.{Lent, lent, lent-both}
-
--- ---- two lists that agree, or do not
-
-agree-step : (x y : ℕ) (b : Bool) → eqb x y && b ≡ true → (x ≡ y) × (b ≡ true)
-agree-step x y b e = go (eqb x y) refl e
-  where
-    go : (c : Bool) → eqb x y ≡ c → c && b ≡ true → (x ≡ y) × (b ≡ true)
-    go true h e = (eqb-true x y h, e)
-    go false h e = absurd (suc-ne-zero 0 (sym (ap (λ (z : Bool). cond z 1 0) e)))
-
-agree-equal : (xs ys : List ℕ) → length xs ≡ length ys → agree xs ys ≡ true → xs ≡ ys
-unfolding agree
-agree-equal [] [] e h = refl
-agree-equal [] (y ∷ ys) e h = absurd (suc-ne-zero _ (sym e))
-agree-equal (x ∷ xs) [] e h = absurd (suc-ne-zero _ e)
-agree-equal (x ∷ xs) (y ∷ ys) e h =
-    ap (λ (z : ℕ). z ∷ xs) (agree-step x y (agree xs ys) h .0)
-    ∙ ap (λ (zs : List ℕ). y ∷ zs) (agree-equal xs ys (suc-inj e) (agree-step x y (agree xs ys) h .1))
-
-first-self : (xs : List ℕ) → firstDifference xs xs ≡ length xs
-unfolding firstDifference
-first-self [] = refl
-first-self (x ∷ xs) = ap (λ (b : Bool). cond b (suc (firstDifference xs xs)) 0) (eq-eqb x x refl) ∙ ap suc (first-self xs)
-
-first-step : (x y f n : ℕ) (b : Bool) → eqb x y && b ≡ false → (b ≡ false → f < n) → cond (eqb x y) (suc f) 0 < suc n
-first-step x y f n b e h = go (eqb x y) e
-  where
-    go : (c : Bool) → c && b ≡ false → cond c (suc f) 0 < suc n
-    go true e = omega (arith, h e)
-    go false e = omega arith
-
-first-within : (xs ys : List ℕ) → agree xs ys ≡ false → firstDifference xs ys < length xs
-unfolding agree firstDifference
-first-within [] ys e = absurd (suc-ne-zero 0 (ap (λ (b : Bool). cond b 1 0) e))
-first-within (x ∷ xs) [] e = absurd (suc-ne-zero 0 (ap (λ (b : Bool). cond b 1 0) e))
-first-within (x ∷ xs) (y ∷ ys) e = first-step x y _ _ (agree xs ys) e (λ h. first-within xs ys h)
+use Rattle.checking.proofs.Comparing.{agree-equal, first-self, first-within}
 
 -- the first n bytes of a buffer
 pub front-length : (xs : List ℕ) (n : ℕ) → n ≤ length xs → length (take (n - 0) (drop 0 xs)) ≡ n
@@ -108,11 +74,6 @@ pub parity-most : (s : Shape) (d p : ℕ) → lentRefusal s d p ≡ 0 → p ≤ 
 parity-most s d p h = let k = lent s d p h in omega (arith, k .parity-long, allowed s (k .shape) .parity-length)
 
 -- ---- nowhere, exactly for a codeword
-
-append-bytes : (xs ys : List ℕ) → Bytes xs → Bytes ys → Bytes (xs ++ ys)
-append-bytes [] ys hx hy i = hy i
-append-bytes (x ∷ xs) ys hx hy zero = hx 0
-append-bytes (x ∷ xs) ys hx hy (suc i) = append-bytes xs ys (λ k. hx (suc k)) hy i
 
 -- an answer whose number is 0 refuses nothing
 nowhere-lent : (s : Shape) (ds ps : List ℕ) → firstWrong s ds ps ≡ Nowhere → lentRefusal s (length ds) (length ps) ≡ 0

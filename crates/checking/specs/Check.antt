@@ -4,13 +4,13 @@ use mathlib.Core.Bool.{cond}
 use mathlib.Core.List.{List, [], _∷_}
 use lib.Dec.{ltb, eqb}
 use lib.ListN.{length}
-use Rattle.lanes.specs.Lanes.{firstDifference}
 use Rattle.stripe.specs.declared.Shape.{Shape}
 use Rattle.checking.specs.declared.Wrong.{Wrong}
 use Rattle.checking.specs.declared.Wrong.the-variants.{Nowhere, At, Refused}
 use Rattle.stripe.specs.Shape.{parityLength}
 use Rattle.stripe.specs.Stripe.{parity}
 use Rattle.stripe.specs.Column.{lentRefusal}
+use Rattle.checking.specs.Compare.{firstDifference}
 
 -- the number of an answer: 0 for a codeword, 8 for a stripe that is none, else the refusal
 abbrev pub numberOf : Wrong → ℕ

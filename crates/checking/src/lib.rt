@@ -1,8 +1,10 @@
 // The check of a stripe: where its parity first disagrees with the parity by definition. The parity of the data is encoded into a
 // local buffer, and the two are compared whole.
+mod compare;
+
+use crate::compare::first_difference;
+use crate::compare::same;
 use coding::encode::encode;
-use lanes::first_difference;
-use lanes::same;
 use stripe::Shape;
 use stripe::column::lent_refusal;
 ghost use mathlib.Core.Path.{_≡_};

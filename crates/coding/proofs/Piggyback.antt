@@ -1,5 +1,5 @@
 -- Piggybacks added to rows: run by run in a parity column, column by column in the parity.
-use mathlib.Core.Path.{_≡_, refl, sym, ap, ap₂, _∙_, subst}
+use mathlib.Core.Path.{_≡_, sym, ap, ap₂, _∙_, subst}
 use mathlib.Core.List.{List}
 use mathlib.Core.Logic.{_⊎_, inl, inr, ⊎-elim}
 use Prim.Native.Nat.{ℕ, _+_, _*_, _-_, _/_, _%_, _<_, _≤_}
@@ -11,6 +11,7 @@ use borrow.Rule.Slice.PartMut.{putMid}
 use borrow.Author.Count.{below-more}
 use Rattle.field.specs.Field.{_⊕_}
 use Rattle.field.specs.Row.{row}
+use Rattle.field.proofs.Cases.{below-or-from}
 use Rattle.stripe.specs.declared.Shape.{Shape}
 use Rattle.stripe.specs.Stripe.{across, rowAt, runLength, parityByte}
 use Rattle.stripe.specs.Column.{lentRefusal}
@@ -22,7 +23,7 @@ use Rattle.stripe.proofs.Allowed.{Prepared, allowed, prepared-runs, prepared-ru
 use Rattle.stripe.proofs.Lent.{lent}
 use Rattle.coding.proofs.Encoded.{columns}
 use Rattle.lanes.proofs.Parts.{part-length, part-at, back-length, back-inside, back-outside}
-use Rattle.stripe.proofs.Places.{below-or-from, place-column, place-byte, parity-below, parity-from}
+use Rattle.stripe.proofs.Places.{place-column, place-byte, parity-below, parity-from}
 
 -- a run that was lent and had a row added, in the whole
 pub added-run : (xs : List ℕ) (k l j from a m : ℕ) (ps ys : List ℕ) → a + m ≤ length ps → Run (length xs) k l j from m

@@ -1,10 +1,11 @@
 -- Lists of bytes by their places.
-use mathlib.Core.Path.{_≡_, refl, sym, ap}
-use mathlib.Core.List.{List, [], _∷_}
-use Prim.Native.Nat.{ℕ, zero, suc, _<_}
+use mathlib.Core.Path.{_≡_, refl, sym, ap, subst}
+use mathlib.Core.List.{List, [], _∷_, _++_}
+use Prim.Native.Nat.{ℕ, zero, suc, _+_, _<_}
 use native.Mathlib.Nat.{le-of-suc-le-suc, not-suc-le-zero, suc-inj, suc-ne-zero}
 use lib.Dec.{lit<}
-use lib.ListN.{length, getD}
+use lib.ListN.{length, getD, take, drop}
+use lib.Seq.{getD-drop}
 use Rattle.field.specs.Field.{_⊕_}
 use Rattle.field.specs.Bytes.{Bytes, tabulate, _⊞_}
 use Rattle.field.proofs.Xor.{zero-add, add-lt}
@@ -46,3 +47,19 @@ add-bytes [] ys hx hy i = lit< tt
 add-bytes (x ∷ xs) [] hx hy i = lit< tt
 add-bytes (x ∷ xs) (y ∷ ys) hx hy zero = add-lt 8 x y (hx 0) (hy 0)
 add-bytes (x ∷ xs) (y ∷ ys) hx hy (suc i) = add-bytes xs ys (λ k. hx (suc k)) (λ k. hy (suc k)) i
+
+-- ---- bytes of two lists, and of a part of one
+
+pub append-bytes : (xs ys : List ℕ) → Bytes xs → Bytes ys → Bytes (xs ++ ys)
+append-bytes [] ys hx hy i = hy i
+append-bytes (x ∷ xs) ys hx hy zero = hx 0
+append-bytes (x ∷ xs) ys hx hy (suc i) = append-bytes xs ys (λ k. hx (suc k)) hy i
+
+pub take-bytes : (n : ℕ) (xs : List ℕ) → Bytes xs → Bytes (take n xs)
+take-bytes zero xs h i = lit< tt
+take-bytes (suc n) [] h i = lit< tt
+take-bytes (suc n) (x ∷ xs) h zero = h 0
+take-bytes (suc n) (x ∷ xs) h (suc i) = take-bytes n xs (λ k. h (suc k)) i
+
+pub drop-bytes : (n : ℕ) (xs : List ℕ) → Bytes xs → Bytes (drop n xs)
+drop-bytes n xs h i = subst (λ (x : ℕ). x < 256) (sym (getD-drop n xs i 0)) (h (n + i))

@@ -1,5 +1,6 @@
 pub mod Xor
 pub mod Below
+pub mod Cases
 pub mod Tables
 pub mod Mul
 pub mod Powers

@@ -12,7 +12,7 @@ use lib.Pow.{mod-mod-pow, field}
 use native.Mathlib.Numerals.{add-one}
 use lib.Dec.{T, eqb, eqb→eq, ltb, ltb→lt, lit<}
 use Rattle.field.specs.Field.{_⊕_, times, doubled, shifted, _⊗_, power, gpow, inverseOf, polynomial}
-use Rattle.field.proofs.Xor.{add-self, zero-add, add-zero, add-lt, add-shr, add-mod, sums}
+use Rattle.field.proofs.Xor.{add-self, zero-add, add-zero, add-lt, add-shr, add-mod, sums, digit}
 use Rattle.field.proofs.Below.{both, both-left, both-right, below}
 use Rattle.field.proofs.Tables.{powers, logarithms}
 
@@ -39,9 +39,6 @@ double a b =
     ∙ ℕ-add-zero (bitXor a b * 2))
 
 -- ---- x times a sum
-
-digit : (n : ℕ) → n % 2 < 2
-digit n = mod-lt n (zero-lt-suc 1)
 
 top-add : (a b : ℕ) → (a ⊕ b) / 128 % 2 ≡ a / 128 % 2 ⊕ b / 128 % 2
 top-add a b = ap (λ (x : ℕ). x % 2) (add-shr a b 7) ∙ add-mod (a / 128) (b / 128) 1

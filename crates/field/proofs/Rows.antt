@@ -9,7 +9,7 @@ use Rattle.field.specs.Bytes.{_⊞_, Bytes}
 use Rattle.field.specs.Row.{rowFrom, row}
 use lib.Dec.{lit<}
 use Rattle.field.specs.Solve.{eval}
-use Rattle.field.proofs.Xor.{add-assoc, add-lt, zero-add, sums}
+use Rattle.field.proofs.Xor.{add-assoc, add-lt, add-zero, zero-add, sums}
 use Rattle.field.proofs.Mul.{mul-lt, mul-zero, mul-add, mul-assoc, one-mul, gpow-add, gpow-zero}
 
 -- a row that starts n places later is g^(n j) times the row
@@ -83,6 +83,9 @@ unfolding row rowFrom
 row-cons j m ms h =
     ap₂ _⊕_ (ap (λ (x : ℕ). x ⊗ m) (ap gpow (ℕ-zero-mul j) ∙ gpow-zero) ∙ one-mul m h)
     (row-shift j 1 0 ms ∙ ap (λ (x : ℕ). gpow x ⊗ rowFrom j 0 ms) (ℕ-one-mul j))
+
+pub row-one : (j m : ℕ) → m < 256 → row j (m ∷ []) ≡ m
+row-one j m h = row-cons j m [] h ∙ ap (λ (x : ℕ). m ⊕ gpow j ⊗ x) (row-nil j) ∙ ap (λ (x : ℕ). m ⊕ x) (mul-zero (gpow j)) ∙ add-zero m
 
 rowFrom-lt : (j i : ℕ) (ms : List ℕ) → rowFrom j i ms < 256
 unfolding rowFrom

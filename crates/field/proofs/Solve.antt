@@ -103,7 +103,7 @@ solve-same (b ∷ bs) (w ∷ ws) s s′ h =
 
 -- ---- the values that `solve` gives have the sums
 
-undo : (w x : ℕ) → 0 < w → w < 256 → x < 256 → w ⊗ (inverseOf w ⊗ x) ≡ x
+pub undo : (w x : ℕ) → 0 < w → w < 256 → x < 256 → w ⊗ (inverseOf w ⊗ x) ≡ x
 undo w x p h k = sym (mul-assoc w (inverseOf w) x) ∙ ap (λ (y : ℕ). y ⊗ x) (mul-inverse w p h) ∙ one-mul x k
 
 first-sum : (w b x m s : ℕ) → w ⊗ x ≡ s ⊕ m → w < 256 → w ⊗ 1 ⊗ x ⊕ m ≡ s

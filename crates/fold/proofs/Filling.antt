@@ -12,10 +12,11 @@ use borrow.Author.Tests.{lt-ltb, le-ltb, eq-eqb, ne-eqb}
 use borrow.Rule.Slice.PartMut.{putMid}
 use Rattle.field.specs.Field.{_⊕_}
 use Rattle.field.proofs.Bytes.{tabulate-length, tabulate-at}
+use Rattle.field.proofs.Cases.{below-or-from}
 use Rattle.stripe.specs.declared.Shape.{Shape}
 use Rattle.stripe.specs.Stripe.{runs, runLength}
 use Rattle.stripe.proofs.Allowed.{Allowed, Prepared, allowed, plain-runs, prepared-runs, plain-run-length, prepared-run-length}
-use Rattle.stripe.proofs.Places.{below-or-from, place-lt, place-column, place-byte, place-split, place-column-lt, place-byte-lt}
+use Rattle.stripe.proofs.Places.{place-lt, place-column, place-byte, place-split, place-column-lt, place-byte-lt, column-inside}
 use Rattle.lanes.proofs.Parts.{part-length, part-at, back-length, back-inside, back-outside}
 use Rattle.plan.specs.declared.Kind.{Kind}
 use Rattle.plan.specs.declared.Kind.the-variants.{A, B, C}
@@ -43,9 +44,6 @@ reads-parity s n f passed h =
 next-run : (b t q l : ℕ) → b < t → t * q ≡ l → b * q + q ≤ l
 next-run b t q l h e = omega (arith, mul-le-mul-right q h)
 
-next-column : (i n l : ℕ) → i < n → i * l + l ≤ n * l
-next-column i n l h = omega (arith, mul-le-mul-right l h)
-
 rest-run : (b r t q : ℕ) → r ≤ b → b < t → (b - r) * q + q ≤ (t - r) * q
 rest-run b r t q lo h = let g : b - r < t - r = omega arith in omega (arith, mul-le-mul-right q g)
 
@@ -60,7 +58,7 @@ module _ (s : Shape) (f j b : ℕ) (plain : s .t ≡ 0) where
   unfolding Within bytesEach
   a-within n hj =
       subst (λ (σ : Share). Within σ (runLength s) (f * s .l) n) (sym a-share)
-      (subst (λ (q : ℕ). j * s .l + q ≤ f * s .l) (sym (plain-run-length s plain)) (next-column j f (s .l) hj))
+      (subst (λ (q : ℕ). j * s .l + q ≤ f * s .l) (sym (plain-run-length s plain)) (column-inside j f (s .l) hj))
 
   a-same : (xs rs : List ℕ) (e : ℕ) → b < runs s → shareAt (shareOf s j b) xs rs e ≡ share A s xs j (b * runLength s + e)
   unfolding share shareAt
@@ -104,10 +102,10 @@ module _ (s : Shape) (f j b : ℕ) (a : Allowed s) (h : Prepared s) (marked : s 
   in-parity : (i c : ℕ) → i < s .r → c < s .t → s .k * partBytes s + (i * s .l + c * runBytes s) + runBytes s ≤ bytesEach B s f
   unfolding bytesEach
   in-parity i c hi hc =
-      omega (arith, runs-sum (s .k) (s .r) (s .t) (runBytes s) (s .l) whole, next-run c (s .t) (runBytes s) (s .l) hc whole, next-column i (s .r) (s .l) hi)
+      omega (arith, runs-sum (s .k) (s .r) (s .t) (runBytes s) (s .l) whole, next-run c (s .t) (runBytes s) (s .l) hc whole, column-inside i (s .r) (s .l) hi)
 
   in-rows : (i c : ℕ) → i < f → s .r ≤ c → c < s .t → i * partBytes s + (c - s .r) * runBytes s + runBytes s ≤ f * partBytes s
-  in-rows i c hi lo hc = omega (arith, rest-run c (s .r) (s .t) (runBytes s) lo hc, next-column i f (partBytes s) hi)
+  in-rows i c hi lo hc = omega (arith, rest-run c (s .r) (s .t) (runBytes s) lo hc, column-inside i f (partBytes s) hi)
 
   b-within : Within (shareOf s j b) (runLength s) (bytesEach B s f) (f * partBytes s)
   unfolding Within

@@ -3,7 +3,7 @@ use mathlib.Core.Path.{_≡_, refl, sym, ap, ap₂, _∙_, subst}
 use mathlib.Core.List.{List}
 use mathlib.Core.Logic.{_⊎_, inl, inr}
 use Prim.Native.Nat.{ℕ, _+_, _-_, _*_, _<_, _≤_}
-use native.Mathlib.Nat.{mul-assoc, mul-comm, mul-le-mul, mul-le-mul-right}
+use native.Mathlib.Nat.{mul-le-mul, mul-le-mul-right, mul-left-comm}
 use native.Mathlib.Omega.{arith}
 use lib.ListN.{length, getD, take}
 use lib.Seq.{length-take-le}
@@ -27,9 +27,6 @@ use Rattle.fold.proofs.Filling.{reads-kinds}
 -- of a plain stripe no data are read
 pub no-part : (s : Shape) → s .t ≡ 0 → partBytes s ≡ 0
 no-part s e = let z : s .t - s .r ≡ 0 = omega arith in ap (λ (x : ℕ). x * runBytes s) z ∙ omega arith
-
-mul-left-comm : (a b c : ℕ) → a * (b * c) ≡ b * (a * c)
-mul-left-comm a b c = sym (mul-assoc a b c) ∙ ap (λ (x : ℕ). x * c) (mul-comm a b) ∙ mul-assoc b a c
 
 -- the parts are no longer than the columns, and the rows of all of them fit two columns
 module _ (s : Shape) (a : Allowed s) (h : Prepared s) where

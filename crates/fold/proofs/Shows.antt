@@ -1,23 +1,25 @@
 -- What follows from the disagreement identity: codewords carry nothing on, so their fold is the parity of all their data; and what a
 -- stripe holds wrong in a byte that the plan names, it carries on to one place of the wide stripe.
 use mathlib.Core.Path.{_≡_, refl, sym, ap, ap₂, _∙_, subst}
-use mathlib.Core.List.{List, [], _∷_, _++_}
+use mathlib.Core.List.{List, [], _∷_}
 use mathlib.Core.Logic.{_⊎_, inl, inr}
 use Prim.Native.Nat.{ℕ, zero, suc, _+_, _*_, _/_, _%_, _<_, _≤_}
 use native.Mathlib.Nat.{add-mul, mod-lt, not-suc-le-zero}
 use native.Mathlib.Omega.{arith}
 use lib.Dec.{lit<}
-use lib.ListN.{length, getD, take, length-append}
+use lib.ListN.{length, getD, length-append}
 use borrow.Author.Tests.{lt-ltb, le-ltb}
 use Rattle.field.specs.Field.{_⊕_, _⊗_, gpow}
 use Rattle.field.specs.Bytes.{Bytes}
 use Rattle.field.proofs.Xor.{add-lt, add-self, add-zero}
 use Rattle.field.proofs.Mul.{mul-pos, gpow-lt, gpow-pos}
+use Rattle.field.proofs.Cases.{below-or-from}
+use Rattle.field.proofs.Bytes.{append-bytes, take-bytes}
 use Rattle.stripe.specs.declared.Shape.{Shape}
 use Rattle.stripe.specs.Shape.{dataLength, stripeLength}
 use Rattle.stripe.specs.Stripe.{parityByte, parity, dataOf, Codeword}
 use Rattle.stripe.proofs.Allowed.{Allowed, Prepared}
-use Rattle.stripe.proofs.Places.{below-or-from, place-lt, place-column, place-byte, place-split, place-column-lt, parity-exact, parity-byte-lt, codeword-checks}
+use Rattle.stripe.proofs.Places.{place-lt, place-column, place-byte, place-split, place-column-lt, parity-exact, parity-byte-lt, codeword-checks}
 use Rattle.plan.specs.declared.Kind.{Kind}
 use Rattle.plan.specs.Plan.{kindOf, foldRefusal, plan, wideShape}
 use Rattle.fold.specs.Fold.{runBytes, foldOf, joined, wideData, cutOut, wideStripe, disagreement, parityNamed, runCarried, carried}
@@ -120,26 +122,15 @@ carried-onto s f zs a (inr (inr h)) none i p hi hp =
 
 -- ---- bytes
 
-bytes-append : (xs ys : List ℕ) → Bytes xs → Bytes ys → Bytes (xs ++ ys)
-bytes-append [] ys hx hy i = hy i
-bytes-append (x ∷ xs) ys hx hy zero = hx 0
-bytes-append (x ∷ xs) ys hx hy (suc i) = bytes-append xs ys (λ k. hx (suc k)) hy i
-
-pub bytes-take : (n : ℕ) (xs : List ℕ) → Bytes xs → Bytes (take n xs)
-bytes-take zero xs h i = lit< tt
-bytes-take (suc n) [] h i = lit< tt
-bytes-take (suc n) (x ∷ xs) h zero = h 0
-bytes-take (suc n) (x ∷ xs) h (suc i) = bytes-take n xs (λ k. h (suc k)) i
-
 bytes-wide : (s : Shape) (zss : List (List ℕ)) → ((l : ℕ) → l < length zss → Bytes (getD zss l [])) → Bytes (wideData s zss)
 unfolding wideData joined
 bytes-wide s [] h = λ i. lit< tt
 bytes-wide s (zs ∷ zss) h =
-    bytes-append (dataOf s zs) _ (bytes-take (dataLength s) zs (h 0 (omega arith))) (bytes-wide s zss (λ l k. h (suc l) (omega arith)))
+    append-bytes (dataOf s zs) _ (take-bytes (dataLength s) zs (h 0 (omega arith))) (bytes-wide s zss (λ l k. h (suc l) (omega arith)))
 
 wide-all : (s : Shape) (f : ℕ) (zss : List (List ℕ)) → ((l : ℕ) → l < length zss → Bytes (getD zss l [])) → Bytes (wideStripe s (length zss) f zss)
 unfolding wideStripe
-wide-all s f zss h = bytes-append (wideData s zss) _ (bytes-wide s zss h) (fold-bytes s (length zss) f _)
+wide-all s f zss h = append-bytes (wideData s zss) _ (bytes-wide s zss h) (fold-bytes s (length zss) f _)
 
 wide-length : (s : Shape) (f : ℕ) (zss : List (List ℕ)) → foldRefusal s (length zss) f ≡ 0
     → ((l : ℕ) → l < length zss → length (getD zss l []) ≡ stripeLength s)

@@ -4,22 +4,23 @@ use mathlib.Core.Bool.{Bool, true, false, cond}
 use mathlib.Core.List.{List, [], _∷_}
 use mathlib.Core.Logic.{_⊎_, inl, inr}
 use Prim.Native.Nat.{ℕ, zero, suc, _+_, _-_, _*_, _/_, _%_, _<_, _≤_}
-use native.Mathlib.Nat.{mul-le-mul-right, mul-div-cancel-left, zero-mul, not-suc-le-zero, le-of-suc-le-suc}
+use native.Mathlib.Nat.{mul-div-cancel-left, zero-mul, not-suc-le-zero, le-of-suc-le-suc}
 use native.Mathlib.Omega.{arith}
 use native.Mathlib.Numerals.{add-one}
 use lib.Dec.{ltb, eqb}
 use lib.ListN.{length, getD, take, drop, drop-of-length-le}
-use lib.Seq.{ext-getD, drop-drop, getD-drop}
+use lib.Seq.{ext-getD, drop-drop}
 use borrow.Author.Tests.{eq-eqb, ne-eqb}
 use Rattle.field.specs.Field.{_⊕_, _⊗_, gpow}
 use Rattle.field.specs.Bytes.{Bytes}
 use Rattle.field.proofs.Xor.{zero-add, add-zero, add-comm, add-lt}
 use Rattle.field.proofs.Mul.{mul-zero}
-use Rattle.field.proofs.Bytes.{tabulate-length, tabulate-at}
+use Rattle.field.proofs.Bytes.{tabulate-length, tabulate-at, take-bytes, drop-bytes}
 use Rattle.field.proofs.Rows.{row-nil, row-cons, row-lt}
+use Rattle.field.proofs.Cases.{below-or-from}
 use Rattle.lanes.proofs.Parts.{part-length}
 use Rattle.stripe.specs.declared.Shape.{Shape}
-use Rattle.stripe.proofs.Places.{below-or-from}
+use Rattle.stripe.proofs.Lent.{within}
 use Rattle.plan.specs.declared.Kind.{Kind}
 use Rattle.plan.specs.declared.Kind.the-variants.{A, B, C}
 use Rattle.plan.specs.Plan.{foldRefusal, kindOf, bytesEach, bytesRead}
@@ -27,7 +28,6 @@ use Rattle.plan.proofs.Foldable.{foldable}
 use Rattle.plan.proofs.Costs.{bytes-read}
 use Rattle.fold.specs.Fold.{readParity, readRow, runShare, share, foldByte, foldStripes, parts, foldOf}
 use Rattle.fold.specs.Shares.{kept, taken}
-use Rattle.fold.proofs.Shows.{bytes-take}
 
 -- ---- a share is a byte
 
@@ -102,10 +102,7 @@ parts-count m zero xs = refl
 parts-count m (suc n) xs = ap suc (parts-count m n (drop m xs))
 
 bytes-part : (m o : ℕ) (xs : List ℕ) → Bytes xs → Bytes (take m (drop o xs))
-bytes-part m o xs h = bytes-take m (drop o xs) (λ i. subst (λ (x : ℕ). x < 256) (sym (getD-drop o xs i 0)) (h (o + i)))
-
-pub stripe-fits : (n m len l : ℕ) → l < n → len ≡ n * m → l * m + m ≤ len
-stripe-fits n m len l h e = omega (arith, mul-le-mul-right m h)
+bytes-part m o xs h = take-bytes m (drop o xs) (drop-bytes o xs h)
 
 -- ---- from the last to the first
 
@@ -156,7 +153,7 @@ module _ (s : Shape) (n f : ℕ) (d : List ℕ) (passed : foldRefusal s n f ≡ 
   each-is = ap (λ (x : ℕ). x / n) long-is ∙ mul-div-cancel-left (bytesEach (kindOf s f) s f) (let g = foldable s n f passed .stripes-some in omega arith)
 
   pub each-fits : (l : ℕ) → l < n → l * each + each ≤ length d
-  each-fits l h = stripe-fits n each (length d) l h (long-is ∙ ap (λ (x : ℕ). n * x) (sym each-is))
+  each-fits l h = within l n each (length d) h (long-is ∙ ap (λ (x : ℕ). n * x) (sym each-is))
 
   pub each-part : (l : ℕ) → l < n → length (take (l * each + each - l * each) (drop (l * each) d)) ≡ bytesEach (kindOf s f) s f
   each-part l h = part-length d (l * each) each (each-fits l h) ∙ each-is

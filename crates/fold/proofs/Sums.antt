@@ -13,9 +13,10 @@ use Rattle.field.specs.Row.{row}
 use Rattle.field.proofs.Xor.{zero-add, add-zero}
 use Rattle.field.proofs.Mul.{mul-zero, one-mul, mul-assoc, gpow-add, gpow-zero}
 use Rattle.field.proofs.Rows.{row-parts, row-nil, row-cons, row-add, row-lt}
+use Rattle.field.proofs.Cases.{below-or-from}
 use Rattle.stripe.specs.declared.Shape.{Shape}
 use Rattle.stripe.specs.Stripe.{across}
-use Rattle.stripe.proofs.Places.{below-or-from, across-length, across-first, place-lt}
+use Rattle.stripe.proofs.Places.{across-length, across-first, place-lt}
 use Rattle.plan.specs.declared.Kind.{Kind}
 use Rattle.plan.specs.declared.Kind.the-variants.{C}
 use Rattle.fold.specs.Fold.{share, foldByte, joined}

@@ -7,11 +7,10 @@ use native.Mathlib.Nat.{suc-ne-zero}
 use lib.Dec.{eqb, eqb·suc-zero}
 use lib.ListN.{length}
 use borrow.Author.Tests.{eq-eqb, ne-eqb, eqb-true}
+use Rattle.field.proofs.Cases.{and-left, and-right}
 use Rattle.stripe.specs.declared.Shape.{Shape}
 use Rattle.plan.specs.Plan.{foldRefusal, bytesRead}
-use Rattle.fold.specs.Fold.{foldOf}
-use Rattle.fold.specs.Shares.{foldVerdict, foldFilled}
-use Rattle.plan.proofs.Foldable.{and-left, and-right}
+use Rattle.fold.specs.Fold.{foldOf, foldVerdict, foldFilled}
 
 module _ (s : Shape) (n f a b : ℕ) where
   pub by-refusal : (foldRefusal s n f ≡ 0 → ⊥) → foldRefusal s n f ≡ foldVerdict s n f a b

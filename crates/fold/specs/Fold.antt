@@ -1,10 +1,10 @@
 -- The fold (document 01, 'Folding'): its answer for all bytes, codewords or not, from the joined bytes of the plan; and the bytes
 -- that the plan names of whole stripes.
 use Prim.Native.Nat.{ℕ, zero, suc, _+_, _-_, _*_, _/_, _%_}
-use mathlib.Core.Bool.{cond}
+use mathlib.Core.Bool.{cond, _&&_}
 use mathlib.Core.List.{List, [], _∷_, _++_, map}
-use lib.Dec.{ltb}
-use lib.ListN.{getD, take, drop}
+use lib.Dec.{ltb, eqb}
+use lib.ListN.{length, getD, take, drop}
 use Rattle.field.specs.Field.{_⊕_}
 use Rattle.field.specs.Bytes.{tabulate}
 use Rattle.field.specs.Row.{row}
@@ -13,7 +13,7 @@ use Rattle.stripe.specs.Stripe.{across, parityByte, dataOf}
 use Rattle.plan.specs.declared.Span.{Span}
 use Rattle.plan.specs.declared.Kind.{Kind}
 use Rattle.plan.specs.declared.Kind.the-variants.{A, B, C}
-use Rattle.plan.specs.Plan.{kindOf, bytesEach, kindSpans, plan}
+use Rattle.plan.specs.Plan.{foldRefusal, kindOf, bytesEach, bytesRead, kindSpans, plan}
 
 -- ---- kind B: what is read of a stripe is a part of each data column, the runs r to t-1, then the parity columns
 
@@ -66,6 +66,17 @@ parts m (suc n) xs = take m xs ∷ parts m n (drop m xs)
 -- the fold's answer, from the joined bytes of the plan
 unfoldable pub foldOf : Shape → ℕ → ℕ → List ℕ → List ℕ
 foldOf s n f xs = foldStripes s f (parts (bytesEach (kindOf s f) s f) n xs)
+
+-- ---- the call
+
+-- the answer's number: the refusal of the fold, then 5 for a lent buffer of another length
+unfoldable pub foldVerdict : Shape → ℕ → ℕ → ℕ → ℕ → ℕ
+foldVerdict s n f a b =
+    cond (eqb (foldRefusal s n f) 0) (cond (eqb a (bytesRead s n f) && eqb b (f * s .l)) 0 5) (foldRefusal s n f)
+
+-- what the parity holds in the end: the fold's answer, or what it held where the call is refused
+unfoldable pub foldFilled : Shape → ℕ → ℕ → List ℕ → List ℕ → List ℕ
+foldFilled s n f xs ys = cond (eqb (foldVerdict s n f (length xs) (length ys)) 0) (foldOf s n f xs) ys
 
 -- ---- whole stripes
 

@@ -2,7 +2,7 @@
 -- stripe adds to a run is stored in the bytes read of it, in the rows of its data, or in both.
 use Prim.Native.Nat.{ℕ, _+_, _-_, _*_, _/_, _%_, _<_, _≤_}
 use mathlib.Core.Path.{_≡_}
-use mathlib.Core.Bool.{Bool, true, cond, _&&_}
+use mathlib.Core.Bool.{Bool, true, cond}
 use mathlib.Core.List.{List}
 use lib.Dec.{ltb, eqb}
 use lib.ListN.{length, getD}
@@ -13,10 +13,10 @@ use Rattle.stripe.specs.declared.Shape.{Shape}
 use Rattle.stripe.specs.Shape.{shapeRefusal}
 use Rattle.stripe.specs.Stripe.{across}
 use Rattle.plan.specs.declared.Kind.the-variants.{C}
-use Rattle.plan.specs.Plan.{foldRefusal, newAllowed, kindOf, bytesRead}
+use Rattle.plan.specs.Plan.{newAllowed, kindOf}
 use Rattle.fold.specs.declared.shares.Share.{Share}
 use Rattle.fold.specs.declared.shares.Share.the-variants.{Read, Row, Both}
-use Rattle.fold.specs.Fold.{runBytes, partBytes, share, foldOf}
+use Rattle.fold.specs.Fold.{runBytes, partBytes, share}
 
 -- a fold that reads parity, of an allowed shape and an allowed f
 pub record ReadsParity (s : Shape) (f : ℕ) : Type 0 where
@@ -63,12 +63,3 @@ shareOf s j b =
 unfoldable pub taken : Shape → ℕ → Bool → List ℕ → List ℕ → List ℕ
 taken s f first xs ys =
     tabulate (f * s .l) (λ i. kept first (i / s .l * s .k) (getD ys i 0) ⊕ share (kindOf s f) s xs (i / s .l) (i % s .l))
-
--- the answer's number: the refusal of the fold, then 5 for a lent buffer of another length
-unfoldable pub foldVerdict : Shape → ℕ → ℕ → ℕ → ℕ → ℕ
-foldVerdict s n f a b =
-    cond (eqb (foldRefusal s n f) 0) (cond (eqb a (bytesRead s n f) && eqb b (f * s .l)) 0 5) (foldRefusal s n f)
-
--- what the parity holds in the end: the fold's answer, or what it held where the call is refused
-unfoldable pub foldFilled : Shape → ℕ → ℕ → List ℕ → List ℕ → List ℕ
-foldFilled s n f xs ys = cond (eqb (foldVerdict s n f (length xs) (length ys)) 0) (foldOf s n f xs) ys

@@ -1,5 +1,4 @@
 pub mod Onto
-pub mod Within
-pub mod Compare
+pub mod Zero
 pub mod Unique
 pub mod Parts

@@ -128,3 +128,10 @@ pub done : {f : ℕ → ℕ → ℕ} {xs ys zs : List ℕ} {q n : ℕ} → Turne
     → (length xs ≤ n) ⊎ (length ys ≤ n) → zs ≡ onto f xs ys
 done {f} {xs} {ys} {zs} {q} {n} t h (inl l) = t .is ∙ all-turns f xs ys q (inl (omega arith))
 done {f} {xs} {ys} {zs} {q} {n} t h (inr l) = t .is ∙ all-turns f xs ys q (inr (omega arith))
+
+-- ---- f of each byte
+
+pub map-at : (f : ℕ → ℕ) (xs : List ℕ) (i : ℕ) → i < length xs → getD (map f xs) i 0 ≡ f (getD xs i 0)
+map-at f [] i h = absurd (not-suc-le-zero h)
+map-at f (x ∷ xs) zero h = refl
+map-at f (x ∷ xs) (suc i) h = map-at f xs i (le-of-suc-le-suc h)

@@ -7,6 +7,8 @@ use native.Mathlib.Omega.{arith}
 use lib.ListN.{length, getD, take, drop, length-take, length-append, length-drop, List·getD-append}
 use lib.Seq.{length-take-le, getD-take, getD-drop, getD-append-add}
 use borrow.Rule.Slice.PartMut.{putMid}
+use Rattle.lanes.specs.Lanes.{onto}
+use Rattle.lanes.proofs.Onto.{onto-at}
 
 -- past the first list
 getD-past : (xs ys : List ℕ) (i : ℕ) → length xs ≤ i → getD (xs ++ ys) i 0 ≡ getD ys (i - length xs) 0
@@ -18,6 +20,12 @@ part-length xs s n h = simp (length-take, length-drop) (omega arith)
 
 pub part-at : (xs : List ℕ) (s n q : ℕ) → q < n → getD (take (s + n - s) (drop s xs)) q 0 ≡ getD xs (s + q) 0
 part-at xs s n q h = getD-take (s + n - s) (drop s xs) q 0 (omega arith) ∙ getD-drop s xs q 0
+
+-- what `copy` of a part leaves in a list
+pub copied : (xs a b : List ℕ) (at n : ℕ) → at + n ≤ length xs → n ≤ length a → b ≡ onto (λ (x y : ℕ). y) a (take (at + n - at) (drop at xs))
+    → (q : ℕ) → q < n → getD b q 0 ≡ getD xs (at + q) 0
+copied xs a b at n fits long is q h =
+    ap (λ (x : List ℕ). getD x q 0) is ∙ onto-at (λ (x y : ℕ). y) a _ q (omega arith) (omega (arith, part-length xs at n fits)) ∙ part-at xs at n q h
 
 -- the whole xs, of which the n bytes from a on came back as ys
 module _ (xs ys : List ℕ) (a n : ℕ) (long : length ys ≡ n) (fits : a + n ≤ length xs) where

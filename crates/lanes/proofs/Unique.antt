@@ -11,18 +11,10 @@ use Rattle.lanes.proofs.add as add
 use Rattle.lanes.proofs.add.Reads as add-reads
 use Rattle.lanes.proofs.copy as copy
 use Rattle.lanes.proofs.copy.Reads as copy-reads
-use Rattle.lanes.proofs.add_within as add-within
-use Rattle.lanes.proofs.add_within.Reads as add-within-reads
-use Rattle.lanes.proofs.same as same
-use Rattle.lanes.proofs.same.Reads as same-reads
 use Rattle.lanes.proofs.all_zero as all-zero
 use Rattle.lanes.proofs.all_zero.Reads as all-zero-reads
-use Rattle.lanes.proofs.first_difference as first-difference
-use Rattle.lanes.proofs.first_difference.Reads as first-difference-reads
 use Rattle.lanes.proofs.shorter as shorter
 use Rattle.lanes.proofs.shorter.Reads as shorter-reads
-use Rattle.lanes.proofs.apart_places as apart-places
-use Rattle.lanes.proofs.apart_places.Reads as apart-places-reads
 
 lesser : {m n : ℕ} (v w : ℕ) → (v ≤ m) × ((v ≤ n) × ((m ≤ v) ⊎ (n ≤ v))) → (w ≤ m) × ((w ≤ n) × ((m ≤ w) ⊎ (n ≤ w))) → v ≡ w
 lesser {m} {n} v w p q = go (p .1 .1) (q .1 .1)
@@ -41,26 +33,10 @@ pub copy-unique : (κs : Lfts 2) (a : ArgsD copy.signature κs) (r r′ : ResD c
     → copy-reads.Post κs a r s → copy-reads.Post κs a r′ s′ → now (s .0) ≡ now (s′ .0)
 copy-unique κs a r r′ s s′ p q = p ∙ sym q
 
-pub add-within-unique : (κs : Lfts 1) (a : ArgsD add-within.signature κs) (r r′ : ResD add-within.signature κs) (s s′ : AtExit add-within.ended κs)
-    → add-within-reads.Post κs a r s → add-within-reads.Post κs a r′ s′ → now (s .0) ≡ now (s′ .0)
-add-within-unique κs a r r′ s s′ p q = p ∙ sym q
-
-pub same-unique : (κs : Lfts 2) (a : ArgsD same.signature κs) (r r′ : ResD same.signature κs) (s s′ : AtExit same.ended κs)
-    → same-reads.Post κs a r s → same-reads.Post κs a r′ s′ → r ≡ r′
-same-unique κs a r r′ s s′ p q = p ∙ sym q
-
 pub all-zero-unique : (κs : Lfts 1) (a : ArgsD all-zero.signature κs) (r r′ : ResD all-zero.signature κs) (s s′ : AtExit all-zero.ended κs)
     → all-zero-reads.Post κs a r s → all-zero-reads.Post κs a r′ s′ → r ≡ r′
 all-zero-unique κs a r r′ s s′ p q = p ∙ sym q
 
-pub first-difference-unique : (κs : Lfts 2) (a : ArgsD first-difference.signature κs) (r r′ : ResD first-difference.signature κs) (s s′ : AtExit first-difference.ended κs)
-    → first-difference-reads.Post κs a r s → first-difference-reads.Post κs a r′ s′ → r ≡ r′
-first-difference-unique κs a r r′ s s′ p q = p ∙ sym q
-
 pub shorter-unique : (κs : Lfts 0) (a : ArgsD shorter.signature κs) (r r′ : ResD shorter.signature κs) (s s′ : AtExit shorter.ended κs)
     → shorter-reads.Post κs a r s → shorter-reads.Post κs a r′ s′ → r ≡ r′
 shorter-unique κs a r r′ s s′ p q = lesser r r′ p q
-
-pub apart-places-unique : (κs : Lfts 0) (a : ArgsD apart-places.signature κs) (r r′ : ResD apart-places.signature κs) (s s′ : AtExit apart-places.ended κs)
-    → apart-places-reads.Post κs a r s → apart-places-reads.Post κs a r′ s′ → r ≡ r′
-apart-places-unique κs a r r′ s s′ p q = p ∙ sym q

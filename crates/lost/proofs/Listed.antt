@@ -1,7 +1,7 @@
 -- The lent list: its positions by pairs of bytes, and what is known of them where it is not refused.
 use Prim.Native.Nat.{ℕ, zero, suc, _+_, _*_, _/_, _%_, _-_, _≤_, _<_}
 use mathlib.Core.Path.{_≡_, refl, sym, ap, ap₂, _∙_, subst}
-use mathlib.Core.Bool.{Bool, true, false, cond, _&&_, true≢false}
+use mathlib.Core.Bool.{Bool, true, false, cond, _&&_}
 use mathlib.Core.Logic.{_⊎_, inl, inr}
 use mathlib.Core.List.{List, [], _∷_}
 use native.Mathlib.Omega.{arith}
@@ -11,8 +11,8 @@ use lib.ListN.{length, getD, set, drop, length-drop, List·getD-eq-default}
 use lib.Seq.{getD-set-same, getD-set-other}
 use borrow.Author.Tests.{le-leb, lt-leb, lt-ltb, le-ltb, leb-true, ltb-true, eq-eqb, ne-eqb, eqb-true}
 use borrow.Author.Count.{below-more}
+use Rattle.field.proofs.Cases.{below-or-from, and-left, and-right}
 use Rattle.stripe.specs.Stripe.{Ascending}
-use Rattle.stripe.proofs.Places.{below-or-from}
 use Rattle.lost.specs.declared.Lost.{Lost}
 use Rattle.lost.specs.Positions.{positions, ascending, listRefusal}
 use Rattle.lost.specs.Lost.{lostOf}
@@ -167,14 +167,6 @@ zeros (suc (suc zero)) = refl
 zeros (suc (suc (suc j))) = refl
 
 -- ---- a list that passes
-
-and-left : (a b : Bool) → (a && b) ≡ true → a ≡ true
-and-left true b e = refl
-and-left false b e = e
-
-and-right : (a b : Bool) → (a && b) ≡ true → b ≡ true
-and-right true b e = e
-and-right false b e = absurd (true≢false (sym e))
 
 pub ascends : (a n : ℕ) (es : List ℕ) → ascending a n es ≡ true → Ascending a n es
 unfolding ascending Ascending

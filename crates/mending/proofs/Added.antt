@@ -13,6 +13,7 @@ use borrow.Rule.Slice.PartMut.{putMid}
 use Rattle.field.specs.Field.{_⊕_}
 use Rattle.field.specs.Bytes.{Bytes}
 use Rattle.field.specs.Row.{row}
+use Rattle.field.proofs.Cases.{below-or-from}
 use Rattle.lanes.specs.Lanes.{onto}
 use Rattle.lanes.proofs.Onto.{onto-length, onto-at}
 use Rattle.lanes.proofs.Parts.{part-length, part-at, back-length, back-inside, back-outside}
@@ -20,7 +21,7 @@ use Rattle.stripe.specs.declared.Shape.{Shape}
 use Rattle.stripe.specs.Shape.{columns, parityLength, stripeLength}
 use Rattle.stripe.specs.Stripe.{among}
 use Rattle.stripe.proofs.Allowed.{Allowed}
-use Rattle.stripe.proofs.Places.{below-or-from, across-length, across-first}
+use Rattle.stripe.proofs.Places.{across-length, across-first}
 use Rattle.stripe.proofs.Survivors.{firstRow, rowStep}
 use Rattle.stripe.proofs.Lost.{rowLost, ascending-at, lost-data-among}
 use Rattle.stripe.proofs.Word.{wordMended, word-mended-agrees, word-mended-own}

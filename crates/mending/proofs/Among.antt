@@ -1,7 +1,7 @@
 -- A record's positions: which are among them, and which of them are data columns.
 use Prim.Native.Nat.{ℕ, zero, suc, _≤_, _<_}
 use mathlib.Core.Path.{_≡_, refl, sym, ap, _∙_}
-use mathlib.Core.Bool.{Bool, true, false, cond, _||_}
+use mathlib.Core.Bool.{Bool, true, false, cond, or-true}
 use mathlib.Core.List.{List, [], _∷_}
 use native.Mathlib.Omega.{arith}
 use native.Mathlib.Nat.{le-of-suc-le-suc}
@@ -11,10 +11,6 @@ use borrow.Author.Tests.{eq-eqb, ne-eqb}
 use Rattle.stripe.specs.Stripe.{among, Ascending}
 use Rattle.stripe.proofs.Lost.{lostData, lost-data-nil, lost-data-below, lost-data-from}
 use Rattle.stripe.proofs.Survivors.{firstRow, rowStep}
-
-or-true : (b : Bool) → (b || true) ≡ true
-or-true true = refl
-or-true false = refl
 
 pub found : (xs : List ℕ) (n c i : ℕ) → i < n → i < length xs → getD xs i 0 ≡ c → true ≡ among c (take n xs)
 unfolding among

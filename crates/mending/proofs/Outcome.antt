@@ -1,14 +1,12 @@
 -- Mending has one outcome for every stripe and list; what the lost columns held counts for nothing; with r lost nothing is refused 8.
 use Prim.Native.Nat.{ℕ}
 use mathlib.Core.Path.{_≡_, refl, sym, ap, _∙_}
-use mathlib.Core.Bool.{Bool, true, false}
 use mathlib.Core.Logic.{_⊎_, inl, inr}
 use mathlib.Core.List.{List}
 use native.Mathlib.Omega.{arith}
-use lib.Dec.{eqb}
 use lib.ListN.{length}
-use borrow.Author.Tests.{eqb-true, eqb-false}
 use Rattle.field.specs.Bytes.{Bytes}
+use Rattle.field.proofs.Cases.{zero-or-not}
 use Rattle.stripe.specs.declared.Shape.{Shape}
 use Rattle.stripe.specs.Stripe.{Agree}
 use Rattle.stripe.proofs.Determined.{determined, agree-sym, agree-trans}
@@ -16,14 +14,6 @@ use Rattle.stripe.proofs.Completed.{completed}
 use Rattle.lost.specs.Positions.{positions}
 use Rattle.mending.specs.Mend.{mendRefusal, Restored, Mended}
 use Rattle.mending.proofs.Passed.{Passed, passed}
-
--- a number is 0 or it is not
-zero-or-not : (n : ℕ) → (n ≡ 0) ⊎ (n ≡ 0 → ⊥)
-zero-or-not n = go (eqb n 0) refl
-  where
-    go : (b : Bool) → eqb n 0 ≡ b → (n ≡ 0) ⊎ (n ≡ 0 → ⊥)
-    go true e = inl (eqb-true n 0 e)
-    go false e = inr (eqb-false n 0 e)
 
 -- codewords that restore two stripes which agree outside the lost columns are one
 restored-one : (s : Shape) (ls xs xs′ ys ys′ : List ℕ) → Passed s (length xs) ls → Agree s (positions ls) xs xs′

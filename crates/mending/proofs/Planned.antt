@@ -15,11 +15,11 @@ use Rattle.field.specs.Solve.{solve, moment}
 use Rattle.field.proofs.Xor.{add-lt}
 use Rattle.field.proofs.Mul.{mul-add, mul-assoc, mul-zero, mul-lt, mul-comm, one-mul, mul-inverse, gpow-zero, gpow-add, gpow-lt, gpow-pos}
 use Rattle.field.proofs.Solve.{solve-same, solve-moment, solved}
+use Rattle.field.proofs.Cases.{below-or-from}
 use Rattle.stripe.specs.declared.Shape.{Shape}
 use Rattle.stripe.specs.Shape.{columns}
 use Rattle.stripe.specs.Stripe.{runs, among, Ascending}
 use Rattle.stripe.proofs.Allowed.{Allowed, allowed, plain-runs}
-use Rattle.stripe.proofs.Places.{below-or-from}
 use Rattle.stripe.proofs.Survivors.{Spread, firstRow, rowStep}
 use Rattle.stripe.proofs.Lost.{lostData, rowLost, lost-data-ascending, ascending-at}
 use Rattle.stripe.proofs.Errors.{points, points-length, points-bytes, points-weights, points-apart, errorRow, error-moment, errors, errors-length, errors-bytes, syndrome}

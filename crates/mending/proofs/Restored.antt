@@ -10,12 +10,13 @@ use lib.Seq.{getD-take, length-take-le, ext-getD}
 use Rattle.field.specs.Field.{_⊕_}
 use Rattle.field.specs.Bytes.{Bytes}
 use Rattle.field.specs.Row.{row}
-use Rattle.field.proofs.Xor.{sums}
+use Rattle.field.proofs.Xor.{sums, add-cancel}
+use Rattle.field.proofs.Cases.{below-or-from}
 use Rattle.stripe.specs.declared.Shape.{Shape}
 use Rattle.stripe.specs.Shape.{shapeRefusal, columns, dataLength, stripeLength}
 use Rattle.stripe.specs.Stripe.{runLength, parityByte, dataOf, among, Ascending}
 use Rattle.stripe.proofs.Allowed.{Allowed, allowed}
-use Rattle.stripe.proofs.Places.{below-or-from, place-lt, by-places, across-first, data-of-length, checks-codeword}
+use Rattle.stripe.proofs.Places.{place-lt, by-places, across-first, data-of-length, checks-codeword}
 use Rattle.stripe.proofs.Mended.{checkAt, wanted, wordAt, wanted-below, wanted-from, dataMended, data-mended-length, data-mended-at, mended-parity-below, mended-parity-from, parity-wanted, mended-agrees-exactly}
 use Rattle.stripe.proofs.Determined.{mendable}
 use Rattle.mending.specs.declared.plan.Plan.{Plan}
@@ -29,9 +30,6 @@ use Rattle.lost.proofs.Listed.{positions-length}
 use Rattle.mending.proofs.Passed.{Passed, passed}
 use Rattle.mending.proofs.Settled.{all-fine}
 use Rattle.mending.proofs.Added.{added-word, added-row, added-kept}
-
-cancel : (c r : ℕ) → c ⊕ (c ⊕ r) ≡ r
-cancel c r = simp sums
 
 cancel-from : (c w r : ℕ) → c ⊕ (c ⊕ w ⊕ r) ≡ r ⊕ w
 cancel-from c w r = simp sums
@@ -64,7 +62,7 @@ module _ (s : Shape) (h : shapeRefusal s ≡ 0) (p : Plan) (w : Planned s p) (xs
         go : (y / runLength s < s .r) ⊎ (s .r ≤ y / runLength s)
             → checkAt s xs y i ⊕ (wanted s (lostIn p) xs y i ⊕ row i (wordAt s (lostIn p) xs y)) ≡ parityByte s (dataMended s (lostIn p) xs) i y
         go (inl l) =
-            ap (λ (z : ℕ). checkAt s xs y i ⊕ (z ⊕ row i (wordAt s (lostIn p) xs y))) (wanted-below s (lostIn p) xs y i l) ∙ cancel _ _
+            ap (λ (z : ℕ). checkAt s xs y i ⊕ (z ⊕ row i (wordAt s (lostIn p) xs y))) (wanted-below s (lostIn p) xs y i l) ∙ add-cancel _ _
             ∙ sym (mended-parity-below s (lostIn p) xs i y hy l)
         go (inr l) =
             ap (λ (z : ℕ). checkAt s xs y i ⊕ (z ⊕ row i (wordAt s (lostIn p) xs y))) (wanted-from s (lostIn p) xs y i l) ∙ cancel-from _ _ _

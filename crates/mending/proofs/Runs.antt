@@ -13,15 +13,16 @@ use Rattle.field.specs.Row.{row}
 use Rattle.field.proofs.Xor.{add-lt, sums}
 use Rattle.field.proofs.Rows.{row-lt}
 use Rattle.field.proofs.Solve.{solve-same}
+use Rattle.field.proofs.Cases.{below-or-from}
 use Rattle.stripe.specs.declared.Shape.{Shape}
 use Rattle.stripe.specs.Shape.{parityLength}
 use Rattle.stripe.specs.Stripe.{runs, runLength, dataOf, rowAt}
 use Rattle.stripe.proofs.Allowed.{Allowed}
-use Rattle.stripe.proofs.Places.{below-or-from, place-column, place-byte, across-length, parity-below, parity-from, row-at-stripe}
+use Rattle.stripe.proofs.Places.{place-column, place-byte, across-length, parity-below, parity-from, row-at-stripe}
 use Rattle.stripe.proofs.Lost.{lostData}
 use Rattle.stripe.proofs.Errors.{points, points-length, errorRow, errors-length, syndrome}
 use Rattle.stripe.proofs.Word.{wordErrors, wordMended, word-mended-row}
-use Rattle.stripe.proofs.Mended.{dataAt, checkAt, wanted, wanted-below, wanted-from, wordAt, wordBelow, word-below}
+use Rattle.stripe.proofs.Mended.{dataAt, checkAt, wanted, wanted-below, wanted-from, wordAt, wordBelow, word-below, wanted-lt}
 use Rattle.syndromes.specs.Syndromes.{Syndromes}
 use Rattle.mending.specs.declared.plan.Plan.{Plan}
 use Rattle.mending.specs.Slots.{weighted, Outside, Sources, Gathered, Spaced, Solved}
@@ -44,13 +45,6 @@ place-off c i y a n l hy ha o = go (below-or-from c i) (below-or-from i c) o
 pub errors-long : (k : ℕ) (es ms : List ℕ) (t : ℕ → ℕ) → length (wordErrors k es ms t) ≡ length (lostData k es)
 unfolding wordErrors
 errors-long k es ms t = errors-length _ _ (lostData k es) ms t
-
-pub wanted-lt : (s : Shape) (es xs : List ℕ) (y j : ℕ) → Bytes xs → wanted s es xs y j < 256
-wanted-lt s es xs y j b = go (below-or-from (y / runLength s) (s .r))
-  where
-    go : (y / runLength s < s .r) ⊎ (s .r ≤ y / runLength s) → wanted s es xs y j < 256
-    go (inl h) = subst (λ (z : ℕ). z < 256) (sym (wanted-below s es xs y j h)) (b _)
-    go (inr h) = subst (λ (z : ℕ). z < 256) (sym (wanted-from s es xs y j h)) (add-lt 8 _ _ (b _) (row-lt (y / runLength s) _))
 
 pub word-is : (s : Shape) (es xs : List ℕ) (y : ℕ) → wordAt s es xs y ≡ wordMended (s .k) es (dataAt s xs y) (wanted s es xs y)
 unfolding wordAt

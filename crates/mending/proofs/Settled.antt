@@ -9,31 +9,33 @@ use lib.Dec.{eqb}
 use native.Mathlib.Nat.{mul-le-mul-right, add-mul}
 use lib.ListN.{length, getD, take, drop}
 use Rattle.lanes.specs.Lanes.{allZero}
-use Rattle.lanes.proofs.Compare.{zero-at, zero-not}
+use Rattle.lanes.proofs.Zero.{zero-at, zero-not}
 use Rattle.lanes.proofs.Parts.{part-length, part-at}
 use borrow.Author.Tests.{eqb-true, eqb-false}
 use Rattle.stripe.specs.Shape.{parityLength}
 use Rattle.field.specs.Field.{_⊕_, _⊗_, gpow}
 use Rattle.field.specs.Bytes.{Bytes}
 use Rattle.field.specs.Row.{row}
-use Rattle.field.proofs.Xor.{add-self, sums}
+use Rattle.field.proofs.Xor.{add-self, add-assoc}
 use Rattle.field.proofs.Mul.{mul-add, mul-zero}
 use Rattle.field.proofs.Powers.{sum-zero}
+use Rattle.field.proofs.Cases.{below-or-from}
 use Rattle.stripe.specs.declared.Shape.{Shape}
 use Rattle.stripe.specs.Stripe.{runs, among}
 use Rattle.stripe.proofs.Allowed.{Allowed}
-use Rattle.stripe.proofs.Places.{below-or-from, across-length}
+use Rattle.stripe.proofs.Places.{across-length}
 use Rattle.stripe.proofs.Survivors.{firstRow, rowStep}
 use Rattle.stripe.proofs.Lost.{rowLost}
 use Rattle.stripe.proofs.Errors.{points, mended-row}
 use Rattle.stripe.proofs.Word.{wordMended}
-use Rattle.stripe.proofs.Mended.{dataAt, wanted}
+use Rattle.stripe.proofs.Mended.{dataAt, wanted, wanted-lt}
 use Rattle.mending.specs.declared.plan.Plan.{Plan}
 use Rattle.mending.specs.Slots.{Outside, Sources, Gathered}
 use Rattle.mending.specs.Plan.{less, lostIn, gone, Solver, Other, Planned}
-use Rattle.mending.specs.Scratch.{rowByte, errorsAt, StillLacks, Fine, AllFine, Says, SolvedBelow, SettledBelow, RowSettles}
+use Rattle.syndromes.specs.Syndromes.{Says}
+use Rattle.mending.specs.Scratch.{rowByte, errorsAt, StillLacks, Fine, AllFine, SolvedBelow, SettledBelow, RowSettles}
 use Rattle.mending.proofs.Planned.{count-is, less-length, row-below, pivot-row, pivot-gone, power-zero-only, weighted-row, ordered, spread}
-use Rattle.mending.proofs.Runs.{place-off, errors-long, wanted-lt, word-is, word-row, slot-place}
+use Rattle.mending.proofs.Runs.{place-off, errors-long, word-is, word-row, slot-place}
 
 -- ---- which rows are solved by
 
@@ -97,9 +99,6 @@ pub skip-settles : (s : Shape) (p : Plan) (j : ℕ) (ys : List ℕ) → Solver p
 skip-settles s p j ys w =
     record { long = refl; so = λ xs bytes t e. settled-skip s p xs ys j w t; not-so = λ xs bytes t e. absurd (true≢false e) }
 
-associate : (a b c : ℕ) → a ⊕ b ⊕ c ≡ a ⊕ (b ⊕ c)
-associate a b c = simp sums
-
 module _ (s : Shape) (f : Allowed s) (p : Plan) (w : Planned s p) (j : ℕ) (hj : j < s .r) (o : Other p j) (ys zs : List ℕ)
     (g : Gathered (points j (less (p .pivot) (gone s p))) (j * s .l) (p .first * s .l) (p .step * s .l) (s .l) ys zs) where
   kept : (i y : ℕ) → (i ≡ j → ⊥) → y < s .l → rowByte s zs i y ≡ rowByte s ys i y
@@ -119,7 +118,7 @@ module _ (s : Shape) (f : Allowed s) (p : Plan) (w : Planned s p) (j : ℕ) (hj 
         (λ v l. ap (λ (z : ℕ). getD ys z 0) (at v) ∙ t .errors y hy v (omega (arith, less-length (p .pivot) (gone s p), count-is s f p w)))))
         ∙ mul-add (gpow (j * p .pivot)) _ _
         ∙ ap₂ _⊕_ (t .rest j y (omega arith) hj o hy) (pivot-row (p .pivot) j (gone s p) (errorsAt s p xs y) (pivot-gone s f p w))
-        ∙ associate _ _ _
+        ∙ add-assoc _ _ _
         ∙ ap (λ (z : ℕ). wanted s (lostIn p) xs y j ⊕ z) (sym (word-row s f p w xs bytes j y))
       where
         at : (v : ℕ) → p .first * s .l + v * (p .step * s .l) + y ≡ (p .first + p .step * v) * s .l + y

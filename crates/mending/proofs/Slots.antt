@@ -16,31 +16,13 @@ use Rattle.field.specs.Solve.{solve, moment, apart, cleared}
 use Rattle.field.proofs.Xor.{add-zero, sums}
 use Rattle.field.proofs.Mul.{mul-assoc, one-mul, power-zero, inverse-unique}
 use Rattle.field.proofs.Solve.{solve-same, solve-bytes, solve-length, apart-length}
-use Rattle.lanes.specs.Lanes.{within}
-use Rattle.lanes.proofs.Within.{Apart, Within, within-places, map-at}
+use Rattle.field.proofs.Cases.{below-or-from}
+use Rattle.lanes.proofs.Onto.{map-at}
 use Rattle.lanes.proofs.Parts.{part-length, part-at, back-length, back-inside, back-outside}
-use Rattle.stripe.proofs.Places.{below-or-from}
-use Rattle.mending.specs.Slots.{slotsAt, weighted, Outside, Mixed, Sources, Gathered, Spaced, OffSlots, Cleared, SetApart, First, Solved}
+use Rattle.products.proofs.Mixing.{Apart, Within}
+use Rattle.mending.specs.Slots.{slotsAt, weighted, Outside, Sources, Gathered, Spaced, OffSlots, Cleared, SetApart, First, Solved}
 
 -- ---- one slot onto another
-
-pub mixed-made : (a b n c : ℕ) (xs ys : List ℕ) → Apart a b n (length xs) → ys ≡ within (λ (x y : ℕ). x ⊕ c ⊗ y) a b n xs → Mixed a b n c xs ys
-mixed-made a b n c xs ys h e = subst (Mixed a b n c xs) (sym e) record { long = w .long; on = w .on; off = w .off }
-  where
-    w : Within (λ (x y : ℕ). x ⊕ c ⊗ y) a b n xs (within (λ (x y : ℕ). x ⊕ c ⊗ y) a b n xs)
-    w = within-places (λ (x y : ℕ). x ⊕ c ⊗ y) a b n xs h
-
--- c is 1
-pub mixed-one : (a b n c : ℕ) (xs ys : List ℕ) → c ≡ 1 → Bytes xs → Apart a b n (length xs) → ys ≡ within (λ (x y : ℕ). x ⊕ y) a b n xs → Mixed a b n c xs ys
-mixed-one a b n c xs ys ec bytes h e =
-    subst (Mixed a b n c xs) (sym e)
-    record { long = w .long; on = λ q l. w .on q l ∙ by-one (getD xs (a + q) 0) (getD xs (b + q) 0) (bytes (b + q)); off = w .off }
-  where
-    w : Within (λ (x y : ℕ). x ⊕ y) a b n xs (within (λ (x y : ℕ). x ⊕ y) a b n xs)
-    w = within-places (λ (x y : ℕ). x ⊕ y) a b n xs h
-
-    by-one : (x y : ℕ) → y < 256 → x ⊕ y ≡ x ⊕ c ⊗ y
-    by-one x y h = sym (ap (λ (z : ℕ). x ⊕ z ⊗ y) ec ∙ ap (λ (z : ℕ). x ⊕ z) (one-mul y h))
 
 -- a slot that is none of the sources is apart from each
 pub sources-apart : {e a b d n len : ℕ} → Sources e a b d n len → (v : ℕ) → v < e → Apart a (b + v * d) n len
@@ -108,7 +90,7 @@ regroup : (a w x y : ℕ) → a ⊕ y ⊕ w ⊗ x ≡ a ⊕ (w ⊗ x ⊕ y)
 regroup a w x y = simp sums
 
 pub gathering-turn : (ws : List ℕ) (a b d n : ℕ) (xs ys zs : List ℕ) (m v len : ℕ) → m ≡ v + 1 → v < length ws → Sources (length ws) a b d n len
-    → Gathering ws a b d n xs ys m → Mixed a (b + v * d) n (getD ws v 0) ys zs → Gathering ws a b d n xs zs v
+    → Gathering ws a b d n xs ys m → Within (λ (x y : ℕ). x ⊕ getD ws v 0 ⊗ y) a (b + v * d) n ys zs → Gathering ws a b d n xs zs v
 gathering-turn ws a b d n xs ys zs m v len em hv s t x =
     record { long = x .long ∙ t .long; on = on; off = λ i h. x .off i h ∙ t .off i h }
   where
@@ -161,7 +143,7 @@ pub clearing-start : (c e a d n : ℕ) (xs : List ℕ) → Clearing c e a d n xs
 clearing-start c e a d n xs = record { long = refl; next = λ q v hq h k. absurd (omega arith); off = λ i h. refl }
 
 pub clearing-turn : (c e a d n : ℕ) (xs ys zs : List ℕ) (m u : ℕ) → m ≡ u + 1 → 0 < u → u < e → n ≤ d → Clearing c e a d n xs ys m
-    → Mixed (a + u * d) (a + u * d - d) n c ys zs → Clearing c e a d n xs zs u
+    → Within (λ (x y : ℕ). x ⊕ c ⊗ y) (a + u * d) (a + u * d - d) n ys zs → Clearing c e a d n xs zs u
 clearing-turn c e a d n xs ys zs m u em hu he wide t x =
     record { long = x .long ∙ t .long; next = next; off = off }
   where

@@ -7,8 +7,6 @@ use lib.ListN.{length}
 use Rattle.stripe.specs.declared.Shape.{Shape}
 use Rattle.stripe.specs.Shape.{shapeRefusal, columns}
 use Rattle.stripe.specs.Stripe.{Ascending}
-use Rattle.checking.specs.declared.Wrong.{Wrong}
-use Rattle.checking.specs.declared.Wrong.the-variants.{Nowhere, At, Refused}
 use Rattle.lost.specs.declared.Lost.{Lost}
 use Rattle.lost.specs.Lost.{lostList}
 use Rattle.mending.specs.Mend.{Restored}
@@ -21,9 +19,3 @@ pub record Ready (s : Shape) (w : Lost) : Type 0 where
 
 abbrev pub Restores : Shape → List ℕ → List ℕ → ℕ → List ℕ → Type 0
 Restores s es xs v ys = ((v ≡ 0) × Restored s es xs ys) ⊎ ((v ≡ 8) × ((ys ≡ xs) × ((zs : List ℕ) → Restored s es xs zs → ⊥)))
-
--- with nothing lost, the answer to what the check found
-abbrev pub verdictOf : Wrong → ℕ
-verdictOf Nowhere = 0
-verdictOf (At i p) = 8
-verdictOf (Refused n) = 8

@@ -26,11 +26,6 @@ pub record Buffers (s : Shape) (p : Plan) (len : ℕ) : Type 0 where
   pub plan : Planned s p
   pub long : len ≡ parityLength s
 
--- v says whether P holds
-pub record Says (v : Bool) (P : Type 0) : Type 0 where
-  pub so : v ≡ true → P
-  pub not-so : v ≡ false → P → ⊥
-
 -- byte y of row j
 abbrev pub rowByte : Shape → List ℕ → ℕ → ℕ → ℕ
 rowByte s ys j y = getD ys (j * s .l + y) 0

@@ -20,12 +20,6 @@ weighted (w ∷ ws) f = w ⊗ f 0 ⊕ weighted ws (λ v. f (suc v))
 abbrev pub Outside : ℕ → ℕ → ℕ → Type 0
 Outside a n i = (i < a) ⊎ (a + n ≤ i)
 
--- c times the n bytes from b on added to those from a on
-pub record Mixed (a b n c : ℕ) (xs ys : List ℕ) : Type 0 where
-  pub long : length ys ≡ length xs
-  pub on : (q : ℕ) → q < n → getD ys (a + q) 0 ≡ getD xs (a + q) 0 ⊕ c ⊗ getD xs (b + q) 0
-  pub off : (i : ℕ) → Outside a n i → getD ys i 0 ≡ getD xs i 0
-
 -- e slots of n bytes from b on, and a slot at a that is none of them, all within len bytes
 pub record Sources (e a b d n len : ℕ) : Type 0 where
   pub few : e ≤ 3

@@ -1,6 +1,6 @@
 // Mending: the lost columns of a stripe restored, or refused where no codeword agrees with the columns that survive.
 // Nothing is written before everything is judged.
-mod mix;
+mod gather;
 mod plan;
 mod run;
 mod scalars;
@@ -21,13 +21,13 @@ use lost::lost_of;
 use stripe::Shape;
 use syndromes::syndromes;
 ghost use mathlib.Core.Path.{_≡_};
-ghost use Prim.Native.Nat.{_≤_};
 ghost use mathlib.Core.List.{[]};
 ghost use lib.ListN.{length};
 ghost use Rattle.stripe.specs.Shape.{shapeRefusal, parityLength, stripeLength};
+ghost use Rattle.checking.specs.Check.{numberOf};
 ghost use Rattle.mending.specs.Mend.{mendRefusal, Mended};
 ghost use Rattle.lost.specs.Lost.{lostList};
-ghost use Rattle.mending.specs.Restore.{Ready, Restores, verdictOf};
+ghost use Rattle.mending.specs.Restore.{Ready, Restores};
 
 // The stripe with its lost columns mended, and 0; or a refusal, and the stripe stays: 1, 2, 5, 6 or 7 for what is lent, 8 where no
 // codeword agrees with all survivors.
@@ -56,14 +56,14 @@ fn checked(s: Shape, stripe: &[u8]) -> u32
     verdict(first_wrong(s, &stripe[..d], &stripe[d..]))
 }
 
-// The answer to what the check found.
+// The number of what the check found.
 fn verdict(w: Wrong) -> u32
-    ensures { λ v. ⌜ v ≡ verdictOf w ⌝ }
+    ensures { λ v. ⌜ v ≡ numberOf w ⌝ }
 {
     match w {
         Wrong::Nowhere => 0,
         Wrong::At(_, _) => 8,
-        Wrong::Refused(_) => 8,
+        Wrong::Refused(n) => n,
     }
 }
 
@@ -93,24 +93,13 @@ fn restore(s: Shape, lost: Lost, stripe: &mut [u8]) -> u32
     let n = s.r * s.l;
     if n <= 192 {
         let mut slots = [0u8; 192];
-        return restore_in(s, lost, stripe, &mut slots);
+        return restore_rows(s, lost, stripe, &mut slots[..n]);
     }
     if n <= 1536 {
         let mut slots = [0u8; 1536];
-        return restore_in(s, lost, stripe, &mut slots);
+        return restore_rows(s, lost, stripe, &mut slots[..n]);
     }
     let mut slots = [0u8; 12288];
-    restore_in(s, lost, stripe, &mut slots)
-}
-
-// The same, in scratch that has room for r rows.
-fn restore_in(s: Shape, lost: Lost, stripe: &mut [u8], slots: &mut [u8]) -> u32
-    requires { ⌜ Ready s lost × ((length (now stripe) ≡ stripeLength s) × (parityLength s ≤ length (now slots))) ⌝ }
-    ensures { λ v. ⌜ Restores s (lostList lost) (now (stripe .entry)) v (now (stripe .exit)) ⌝ }
-{
-    let r = s.r;
-    let l = s.l;
-    let n = r * l;
     restore_rows(s, lost, stripe, &mut slots[..n])
 }
 

@@ -1,5 +1,5 @@
 // Run by run, the errors of the lost data columns in place of what the rows to solve by lack.
-use crate::mix::gather;
+use crate::gather::gather;
 use crate::plan::Plan;
 use crate::plan::row_weights;
 use crate::solve::solve_slots;

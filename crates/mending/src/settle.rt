@@ -10,8 +10,9 @@ ghost use Prim.Native.Nat.{ℕ, _+_, _*_, _≤_, _<_};
 ghost use lib.ListN.{length, getD};
 ghost use Rattle.stripe.specs.Stripe.{among};
 ghost use Rattle.lost.specs.Lost.{lostList};
+ghost use Rattle.syndromes.specs.Syndromes.{Says};
 ghost use Rattle.mending.specs.Plan.{Solver};
-ghost use Rattle.mending.specs.Scratch.{Buffers, Settles, RowSettles, Says};
+ghost use Rattle.mending.specs.Scratch.{Buffers, Settles, RowSettles};
 
 // Whether each row that survives lacks nothing.
 pub(crate) fn settle(s: Shape, p: Plan, slots: &mut [u8]) -> bool

@@ -1,11 +1,11 @@
 // Sums of powers solved at the n places of slots together, in place: the first point is taken out of the sums, the others are solved,
 // and the first value is what the first sum lacks.
-use crate::mix::gather;
-use crate::mix::mix;
+use crate::gather::gather;
 use crate::scalars::product;
 use field::Gf;
 use lost::CAPACITY;
 use products::scale_all;
+use products::within::mix;
 ghost use mathlib.Core.Path.{_≡_};
 ghost use Prim.Native.Nat.{_≤_, _<_};
 ghost use lib.ListN.{length};

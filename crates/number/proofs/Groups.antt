@@ -3,7 +3,7 @@ use Prim.Native.Nat.{ℕ, zero, suc, _+_, _-_, _*_, _^_, _≤_, _<_}
 use mathlib.Core.Path.{_≡_, refl, sym, ap, _∙_}
 use mathlib.Core.Bool.{Bool, true, false, cond}
 use mathlib.Core.List.{List, [], _∷_}
-use mathlib.Core.Logic.{_⊎_, inl, inr, ⊎-elim}
+use mathlib.Core.Logic.{inl, inr, ⊎-elim}
 use native.Mathlib.Nat.{pow-le-pow-right, pow-suc, one-le-pow}
 use native.Mathlib.Omega.{arith}
 use lib.Dec.{eqb, lit<}
@@ -12,6 +12,7 @@ use types.Run.{OneOf}
 use borrow.Author.Tests.{le-leb, lt-leb, lt-ltb, le-ltb, eq-eqb, ne-eqb, eqb-false}
 use denote.Enum.Declared.{tagOf}
 use Rattle.field.specs.Bytes.{Bytes}
+use Rattle.field.proofs.Cases.{below-or-from}
 use Rattle.number.specs.declared.Number.{Number}
 use Rattle.number.specs.declared.Number.the-variants.{Value, Cut, Malformed}
 use Rattle.number.specs.Number.{onto, groupsAt, limited}
@@ -75,11 +76,6 @@ onto-cut d (Value u n) e = go (eqb u 0) e
 onto-cut d Cut e = refl
 onto-cut d Malformed e = e
 
-pub lt-or-ge : (a b : ℕ) → (a < b) ⊎ (b ≤ a)
-lt-or-ge a zero = inr (omega arith)
-lt-or-ge zero (suc b) = inl (omega arith)
-lt-or-ge (suc a) (suc b) = ⊎-elim (λ p. inl (omega arith)) (λ q. inr (omega arith)) (lt-or-ge a b)
-
 -- what stands at a place, by the byte there
 pub data View (m : ℕ) (s : List ℕ) (at : ℕ) : Type 0 where
   ended : length s ≤ at → groupsAt (suc m) s at ≡ Cut → View m s at
@@ -88,8 +84,8 @@ pub data View (m : ℕ) (s : List ℕ) (at : ℕ) : Type 0 where
 
 pub view : (m : ℕ) (s : List ℕ) (at : ℕ) → View m s at
 view m s at =
-    ⊎-elim (λ l. ⊎-elim (λ b. last l b (sym (at-last (suc m) s at (λ e. omega arith) l b))) (λ b. more l b (sym (at-more-suc l b))) (lt-or-ge (getD s at 0) 128))
-    (λ h. ended h (sym (at-end (suc m) s at (λ e. omega arith) h))) (lt-or-ge at (length s))
+    ⊎-elim (λ l. ⊎-elim (λ b. last l b (sym (at-last (suc m) s at (λ e. omega arith) l b))) (λ b. more l b (sym (at-more-suc l b))) (below-or-from (getD s at 0) 128))
+    (λ h. ended h (sym (at-end (suc m) s at (λ e. omega arith) h))) (below-or-from at (length s))
   where
     at-more-suc : at < length s → 128 ≤ getD s at 0 → onto (getD s at 0 - 128) (groupsAt m s (at + 1)) ≡ groupsAt (suc m) s at
     at-more-suc l b =

@@ -12,10 +12,11 @@ use lib.ListN.{length, getD, drop, set, drop-of-length-le}
 use lib.Seq.{drop-cons, sets}
 use borrow.Author.Tests.{lt-ltb, le-ltb, leb-true}
 use Rattle.field.specs.Bytes.{Bytes}
+use Rattle.field.proofs.Cases.{below-or-from}
 use Rattle.number.specs.declared.Number.{Number}
 use Rattle.number.specs.declared.Number.the-variants.{Value, Cut, Malformed}
-use Rattle.number.specs.Number.{groups, written, onto, groupsAt, limited, numberAt}
-use Rattle.number.proofs.Groups.{View, view, ended, last, more, onto-value, onto-cut, onto-more, at-last, at-more, at-end, lt-or-ge, limited-within}
+use Rattle.number.specs.Number.{groups, written, onto, groupsAt, limited, numberAt, numberRefusal, valueOf, nextOf}
+use Rattle.number.proofs.Groups.{View, view, ended, last, more, onto-value, onto-cut, onto-more, at-last, at-more, at-end, limited-within}
 
 -- ---- the groups of a number
 
@@ -38,7 +39,7 @@ groups-onto m b (suc u) h l z =
 -- one group more is no other number, where there are enough
 pub groups-enough : (m n : ℕ) → n < 128 ^ suc m → groups (suc (suc m)) n ≡ groups (suc m) n
 groups-enough zero n h = groups-last 1 n h ∙ sym (groups-last 0 n h)
-groups-enough (suc m) n h = go (lt-or-ge n 128) (groups-enough m (n / 128) (omega (arith, pow-suc 128 (suc m))))
+groups-enough (suc m) n h = go (below-or-from n 128) (groups-enough m (n / 128) (omega (arith, pow-suc 128 (suc m))))
   where
     go : (n < 128) ⊎ (128 ≤ n) → groups (suc (suc m)) (n / 128) ≡ groups (suc m) (n / 128) → groups (suc (suc (suc m))) n ≡ groups (suc (suc m)) n
     go (inl l) ih = groups-last (suc (suc m)) n l ∙ sym (groups-last (suc m) n l)
@@ -60,7 +61,7 @@ stored out i v h l =
 pub groups-most : (m n : ℕ) → length (groups m n) ≤ m
 unfolding groups
 groups-most zero n = omega arith
-groups-most (suc m) n = go (lt-or-ge n 128) (groups-most m (n / 128))
+groups-most (suc m) n = go (below-or-from n 128) (groups-most m (n / 128))
   where
     go : (n < 128) ⊎ (128 ≤ n) → length (groups m (n / 128)) ≤ m → length (groups (suc m) n) ≤ suc m
     go (inl l) ih = omega (arith, ap length (groups-last m n l))
@@ -115,7 +116,7 @@ read-next m s q at v h e ih =
 groups-read : (m : ℕ) (s q : List ℕ) (at v : ℕ) → v < 128 ^ suc m → drop at s ≡ groups (suc m) v ++ q → groupsAt (suc m) s at ≡ Value v (at + length (groups (suc m) v))
 groups-read zero s q at v h e = read-last zero s q at v h e
 groups-read (suc m) s q at v h e =
-    go (lt-or-ge v 128) (groups-read m s q (at + 1) (v / 128) (omega (arith, pow-suc 128 (suc m))))
+    go (below-or-from v 128) (groups-read m s q (at + 1) (v / 128) (omega (arith, pow-suc 128 (suc m))))
   where
     go : (v < 128) ⊎ (128 ≤ v)
         → (drop (at + 1) s ≡ groups (suc m) (v / 128) ++ q → groupsAt (suc m) s (at + 1) ≡ Value (v / 128) (at + 1 + length (groups (suc m) (v / 128))))
@@ -180,6 +181,30 @@ only-written s at v next h e =
     let l = limited-value (groupsAt 5 s at) v next e in
     let g = groups-only 5 s at v next h (l .0) in
     (l .1, g .0, g .1)
+
+-- ---- the answer by document 01's number and values
+
+-- the bytes of the number v stand at the place, and `next` is past them
+pub record Stands (s : List ℕ) (at v next : ℕ) : Type 0 where
+  pub most : v ≤ 4294967295
+  pub past : next ≡ at + length (written v)
+  pub bytes : drop at s ≡ written v ++ drop next s
+
+-- 0, the number that stands there and the place after it; or 9 where the bytes of no number stand
+pub number-read : (s : List ℕ) (at : ℕ) → Bytes s
+    → ((numberRefusal (numberAt s at) ≡ 0) × Stands s at (valueOf (numberAt s at)) (nextOf (numberAt s at)))
+    ⊎ ((numberRefusal (numberAt s at) ≡ 9) × ((v next : ℕ) → Stands s at v next → ⊥))
+number-read s at h = go (numberAt s at) refl
+  where
+    other : (g : Number) → numberAt s at ≡ g → numberRefusal g ≡ 9 → (v next : ℕ) → Stands s at v next → ⊥
+    other g e n v next w =
+        let z : numberRefusal g ≡ 0 = ap numberRefusal (sym e ∙ read-written s (drop next s) at v (w .most) (w .bytes)) in omega arith
+
+    go : (g : Number) → numberAt s at ≡ g
+        → ((numberRefusal g ≡ 0) × Stands s at (valueOf g) (nextOf g)) ⊎ ((numberRefusal g ≡ 9) × ((v next : ℕ) → Stands s at v next → ⊥))
+    go (Value v next) e = let w = only-written s at v next h e in inl (refl, record { most = w .0; past = w .1; bytes = w .2 })
+    go Cut e = inr (refl, other Cut e refl)
+    go Malformed e = inr (refl, other Malformed e refl)
 
 -- ---- what is cut
 
@@ -248,7 +273,7 @@ unfolding groups
 groups-begin zero s at v b rest [] e d = absurd (let z : _≡_ {A = ℕ} 0 1 = cc in omega arith)
 groups-begin zero s at v b rest (x ∷ xs) e d = absurd (let z : _≡_ {A = ℕ} 0 1 = cc in omega arith)
 groups-begin (suc m) s at v b rest [] e d = sym (at-end (suc m) s at (λ z. omega arith) (drop-none s at d))
-groups-begin (suc m) s at v b rest (x ∷ xs) e d = go (lt-or-ge v 128) (groups-begin m s (at + 1) (v / 128) b rest xs)
+groups-begin (suc m) s at v b rest (x ∷ xs) e d = go (below-or-from v 128) (groups-begin m s (at + 1) (v / 128) b rest xs)
   where
     go : (v < 128) ⊎ (128 ≤ v) → (groups m (v / 128) ≡ xs ++ (b ∷ rest) → drop (at + 1) s ≡ xs → groupsAt m s (at + 1) ≡ Cut) → groupsAt (suc m) s at ≡ Cut
     go (inl l) ih = absurd (more-than-one xs b rest (sym (groups-last m v l) ∙ e))

@@ -44,6 +44,17 @@ numberRefusal (Value v next) = 0
 numberRefusal Cut = 9
 numberRefusal Malformed = 9
 
+-- the value of a number, and the place after it; 0 for what is none
+abbrev pub valueOf : Number → ℕ
+valueOf (Value v next) = v
+valueOf Cut = 0
+valueOf Malformed = 0
+
+abbrev pub nextOf : Number → ℕ
+nextOf (Value v next) = next
+nextOf Cut = 0
+nextOf Malformed = 0
+
 -- a list with xs in the place of what stands from `at` on, where it has room for them
 abbrev pub placed : List ℕ → ℕ → List ℕ → List ℕ
 placed out at xs = cond (leb (at + length xs) (length out)) (take at out ++ xs ++ drop (at + length xs) out) out

@@ -5,8 +5,9 @@ use mathlib.Core.Logic.{_⊎_, inl, inr}
 use Prim.Native.Nat.{ℕ, _+_, _-_, _*_, _/_, _<_, _≤_, min, zero-le}
 use native.Mathlib.Nat.{mul-add, mul-assoc, mul-comm, mul-le-mul-left, mul-le-mul-right}
 use native.Mathlib.Omega.{arith}
-use lib.Dec.{eqb, leb, ltb}
-use borrow.Author.Tests.{eqb-true, ltb-true, ltb-false, eq-eqb, le-ltb, lt-ltb, lt-leb, le-leb}
+use lib.Dec.{eqb, leb}
+use borrow.Author.Tests.{eqb-true, eq-eqb, le-ltb, lt-ltb, lt-leb, le-leb}
+use Rattle.field.proofs.Cases.{below-or-from}
 use Rattle.stripe.specs.declared.Shape.{Shape}
 use Rattle.stripe.proofs.Allowed.{Allowed}
 use Rattle.plan.specs.declared.Kind.{Kind}
@@ -75,16 +76,9 @@ module _ (n k r f : ℕ) where
   unfolding columnsNeeded
   needed-more h = ap (λ (b : Bool). cond b (n * k) (n * min k f)) (lt-ltb r f h)
 
-lt-or-ge : (a b : ℕ) → (a < b) ⊎ (b ≤ a)
-lt-or-ge a b = go (ltb a b) refl
-  where
-    go : (x : Bool) → ltb a b ≡ x → (a < b) ⊎ (b ≤ a)
-    go true e = inl (ltb-true a b e)
-    go false e = inr (ltb-false a b e)
-
 needed-many : (n k r f : ℕ) → (r < f) ⊎ (k < f) → columnsNeeded n k r f ≡ n * k
 needed-many n k r f (inl h) = needed-more n k r f h
-needed-many n k r f (inr h) = go (lt-or-ge r f)
+needed-many n k r f (inr h) = go (below-or-from r f)
   where
     go : (r < f) ⊎ (f ≤ r) → columnsNeeded n k r f ≡ n * k
     go (inl x) = needed-more n k r f x
@@ -124,7 +118,7 @@ square k r h = omega (arith, rest-sum k r k h, mul-comm r k)
 
 bandwidth : (n k r f : ℕ) → r < f → f ≤ k → bandwidthNeeded n k r f ≡ n * (r * f + k * (f - r))
 unfolding bandwidthNeeded
-bandwidth n k r f h m = go (lt-or-ge f k)
+bandwidth n k r f h m = go (below-or-from f k)
   where
     few : leb f r ≡ false
     few = lt-leb f r h

@@ -7,6 +7,7 @@ use native.Mathlib.Nat.{suc-ne-zero}
 use native.Mathlib.Omega.{arith}
 use lib.Dec.{leb, eqb, eqb·suc-zero}
 use borrow.Author.Tests.{leb-true, leb-false, eqb-true, eq-eqb, ne-eqb}
+use Rattle.field.proofs.Cases.{and-left, and-right}
 use Rattle.stripe.specs.declared.Shape.{Shape}
 use Rattle.stripe.specs.Shape.{shapeRefusal}
 use Rattle.stripe.proofs.Allowed.{Allowed, Prepared, allowed, prepared-runs, prepared-run-length}
@@ -38,14 +39,6 @@ pub record Foldable (s : Shape) (n f : ℕ) : Type 0 where
   pub new-some : 1 ≤ f
   pub new-most : f ≤ 3
   pub kinds : IsA s f ⊎ (IsB s f ⊎ IsC s f)
-
-pub and-left : (a b : Bool) → (a && b) ≡ true → a ≡ true
-and-left true b e = refl
-and-left false b e = e
-
-pub and-right : (a b : Bool) → (a && b) ≡ true → b ≡ true
-and-right true b e = e
-and-right false b e = absurd (suc-ne-zero 0 (sym (ap (λ (x : Bool). cond x 1 0) e)))
 
 and-false : (a b : Bool) → (a && b) ≡ false → (a ≡ false) ⊎ (b ≡ false)
 and-false true b e = inr e

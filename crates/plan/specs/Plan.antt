@@ -1,6 +1,6 @@
 -- The plan of a fold (document 01, 'Folding'): which folds are refused, what a fold reads of each stripe, and how much that is.
 -- N stripes of shape s are folded into one wide stripe with f parity columns.
-use Prim.Native.Nat.{ℕ, zero, suc, _+_, _-_, _*_, _/_, _^_}
+use Prim.Native.Nat.{ℕ, zero, suc, _+_, _-_, _*_, _/_}
 use mathlib.Core.Bool.{Bool, cond, _&&_, _||_}
 use mathlib.Core.List.{List, [], _∷_, _++_}
 use lib.Dec.{leb, ltb, eqb}

@@ -4,7 +4,7 @@ use mathlib.Core.Bool.{Bool, cond}
 use Prim.Native.Nat.{ℕ, zero, suc, _+_, _-_, _*_, _/_, _%_, _^_, _<_}
 use native.Mathlib.Nat.{mod-eq-of-lt, div-div-eq-div-mul, div-one, zero-mul, suc-mul}
 use native.Mathlib.Omega.{arith}
-use lib.Bits.{bitXor, bitAnd, and-high}
+use lib.Bits.{bitAnd, and-high}
 use lib.Dec.{eqb, eqb→eq, lit<}
 use borrow.Author.Tests.{eq-eqb, ne-eqb}
 use Rattle.field.specs.Field.{_⊕_, _⊗_, times, doubled, shifted}

@@ -6,8 +6,8 @@ use denote.Triple.Clauses.{AtExit}
 use denote.Ref.{now}
 use Rattle.products.proofs.scale as scale
 use Rattle.products.proofs.scale.Reads as scale-reads
-use Rattle.products.proofs.scale_within as scale-within
-use Rattle.products.proofs.scale_within.Reads as scale-within-reads
+use Rattle.products.proofs.within.mix as mix
+use Rattle.products.proofs.within.mix.Reads as mix-reads
 use Rattle.products.proofs.scale_all as scale-all
 use Rattle.products.proofs.scale_all.Reads as scale-all-reads
 
@@ -15,9 +15,9 @@ pub scale-unique : (κs : Lfts 2) (a : ArgsD scale.signature κs) (r r′ : ResD
     → scale-reads.Post κs a r s → scale-reads.Post κs a r′ s′ → now (s .0) ≡ now (s′ .0)
 scale-unique κs a r r′ s s′ p q = p ∙ sym q
 
-pub scale-within-unique : (κs : Lfts 1) (a : ArgsD scale-within.signature κs) (r r′ : ResD scale-within.signature κs) (s s′ : AtExit scale-within.ended κs)
-    → scale-within-reads.Post κs a r s → scale-within-reads.Post κs a r′ s′ → now (s .0) ≡ now (s′ .0)
-scale-within-unique κs a r r′ s s′ p q = p ∙ sym q
+pub mix-unique : (κs : Lfts 1) (a : ArgsD mix.signature κs) (r r′ : ResD mix.signature κs) (s s′ : AtExit mix.ended κs)
+    → mix-reads.Post κs a r s → mix-reads.Post κs a r′ s′ → now (s .0) ≡ now (s′ .0)
+mix-unique κs a r r′ s s′ p q = p ∙ sym q
 
 pub scale-all-unique : (κs : Lfts 1) (a : ArgsD scale-all.signature κs) (r r′ : ResD scale-all.signature κs) (s s′ : AtExit scale-all.ended κs)
     → scale-all-reads.Post κs a r s → scale-all-reads.Post κs a r′ s′ → now (s .0) ≡ now (s′ .0)

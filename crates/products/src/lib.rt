@@ -1,20 +1,18 @@
 // Loops over byte slices that multiply by any byte, eight masks to a product.
-use lanes::apart_places;
-use lanes::copy;
+pub mod within;
+
 use lanes::shorter;
 use steps::double;
 use steps::mask;
 ghost use mathlib.Core.Path.{_≡_};
-ghost use mathlib.Core.Bool.{true};
 ghost use mathlib.Core.List.{map};
-ghost use Prim.Native.Nat.{ℕ, _≤_};
-ghost use lib.ListN.{length};
+ghost use Prim.Native.Nat.{ℕ};
 ghost use Rattle.field.specs.Field.{_⊕_, _⊗_};
-ghost use Rattle.lanes.specs.Lanes.{onto, apart, within};
+ghost use Rattle.lanes.specs.Lanes.{onto};
 ghost use Rattle.products.specs.Products.{Doubling};
 
 // At each place the first and c times the second.
-fn scale_add(a: &mut [u8], c: u8, d: &[u8])
+pub(crate) fn scale_add(a: &mut [u8], c: u8, d: &[u8])
     ensures { λ _. ⌜ now (a .exit) ≡ onto (λ (x y : ℕ). x ⊕ c ⊗ y) (now (a .entry)) (now (d .entry)) ⌝ }
 {
     let n = shorter(a.len(), d.len());
@@ -37,33 +35,6 @@ pub fn scale(a: &mut [u8], c: u8, d: &[u8])
         a[q] = product(m, a[q]) ^ d[q];
         q += 1;
     }
-}
-
-// To the n bytes from `to` on c times those from `from` on; nothing where they are not all there, or not apart.
-pub fn scale_within(a: &mut [u8], to: usize, from: usize, n: usize, c: u8)
-    ensures { λ _. ⌜ now (a .exit) ≡ within (λ (x y : ℕ). x ⊕ c ⊗ y) to from n (now (a .entry)) ⌝ }
-{
-    let m = apart_places(to, from, n, a.len());
-    let mut q = 0;
-    while 64 <= m - q {
-        scale_part(a, to + q, from + q, 64, c);
-        q += 64;
-    }
-    if q < m {
-        scale_part(a, to + q, from + q, m - q, c);
-    }
-}
-
-// The same of at most 64 bytes, by way of a block of their own: so the compiler need not ask whether the two overlap.
-fn scale_part(a: &mut [u8], to: usize, from: usize, n: usize, c: u8)
-    requires { ⌜ (apart to from n (length (now a)) ≡ true) × (n ≤ 64) ⌝ }
-    ensures { λ _. ⌜ now (a .exit) ≡ within (λ (x y : ℕ). x ⊕ c ⊗ y) to from n (now (a .entry)) ⌝ }
-{
-    let mut t = [0u8; 64];
-    let e = from + n;
-    copy(&mut t, &a[from..e]);
-    let f = to + n;
-    scale_add(&mut a[to..f], c, &t);
 }
 
 // c times each.

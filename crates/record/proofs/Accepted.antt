@@ -1,7 +1,7 @@
 -- What an accepted record says of itself: each refusal in turn is 0, so each number is one, the positions ascend, and the columns fill the rest.
 use Prim.Native.Nat.{ℕ, zero, suc, _+_, _-_, _*_, _≤_, _<_}
 use mathlib.Core.Path.{_≡_, refl, sym, ap, ap₂, subst, _∙_}
-use mathlib.Core.Bool.{Bool, true, false, cond, _&&_}
+use mathlib.Core.Bool.{Bool, true, false, cond, and-eq-true-iff}
 use mathlib.Core.List.{List, [], _∷_}
 use mathlib.Core.Logic.{_⊎_, inl, inr}
 use native.Mathlib.Nat.{eq-or-lt-of-le}
@@ -18,9 +18,9 @@ use Rattle.stripe.proofs.Lost.{not-among, among-other, among-first}
 use Rattle.number.specs.declared.Number.{Number}
 use Rattle.number.specs.declared.Number.the-variants.{Value, Cut, Malformed}
 use Rattle.record.specs.declared.read.Verdict.the-variants.{Lawful, Refused}
-use Rattle.number.specs.Number.{numberAt, numberRefusal, groupsAt}
+use Rattle.number.specs.Number.{numberAt, numberRefusal, groupsAt, valueOf, nextOf}
 use Rattle.record.specs.Layout.{kept}
-use Rattle.record.specs.Reading.{unless, valueOf, nextOf, fourthNumber, countNumber, shapeOf, countOf, lostOf, columnsStart, headRefusal, positionRefusal, positionsRefusal, positionsAt, afterPositions, columnsRefusal, restRefusal, contentRefusal, verdictOf}
+use Rattle.record.specs.Reading.{unless, fourthNumber, countNumber, shapeOf, countOf, lostOf, columnsStart, headRefusal, positionRefusal, positionsRefusal, positionsAt, afterPositions, columnsRefusal, restRefusal, contentRefusal, verdictOf}
 use Rattle.number.proofs.Groups.{View, view, ended, last, more, onto-value}
 use Rattle.number.proofs.Written.{limited-value}
 use Rattle.record.proofs.Refusals.{first-zero, head-described, described}
@@ -53,14 +53,10 @@ pub unless-zero : (b : Bool) (x : ℕ) → 0 < x → unless b x ≡ 0 → b ≡ 
 unless-zero true x h e = refl
 unless-zero false x h e = absurd (omega arith)
 
-pub and-both : (a b : Bool) → (a && b) ≡ true → (a ≡ true) × (b ≡ true)
-and-both true b e = (refl, e)
-and-both false b e = absurd (let z : _≡_ {A = ℕ} 0 1 = ap (λ (x : Bool). cond x 1 0) e in omega arith)
-
 pub position-zero : (g : Number) (least n : ℕ) → positionRefusal g least n ≡ 0 → (numberRefusal g ≡ 0) × (least ≤ valueOf g) × (valueOf g < n)
 position-zero g least n e =
     let a = first-zero _ _ e in
-    let b = and-both _ _ (unless-zero _ 6 (omega arith) (first-zero _ _ (a .1) .0)) in
+    let b = and-eq-true-iff _ _ .0 (unless-zero _ 6 (omega arith) (first-zero _ _ (a .1) .0)) in
     (a .0, leb-true least (valueOf g) (b .0), ltb-true (valueOf g) n (b .1))
 
 -- one position, and those after it

@@ -10,9 +10,9 @@ use lib.Seq.{take-at, drop-at, length-take-le}
 use Rattle.field.specs.Bytes.{Bytes}
 use Rattle.stripe.specs.Shape.{columns, stripeLength}
 use Rattle.stripe.specs.Stripe.{among}
-use Rattle.number.specs.Number.{numberAt, numberRefusal, written}
+use Rattle.number.specs.Number.{numberAt, numberRefusal, written, valueOf, nextOf}
 use Rattle.record.specs.Layout.{positions, survivors, kept, restored, recordHead, recordOf}
-use Rattle.record.specs.Reading.{valueOf, nextOf, firstNumber, secondNumber, thirdNumber, fourthNumber, countNumber, shapeOf, countOf, lostOf, columnsStart, headRefusal, positionsRefusal, positionsAt, afterPositions, contentRefusal, columnsFilled}
+use Rattle.record.specs.Reading.{firstNumber, secondNumber, thirdNumber, fourthNumber, countNumber, shapeOf, countOf, lostOf, columnsStart, headRefusal, positionsRefusal, positionsAt, afterPositions, contentRefusal, columnsFilled}
 use Rattle.number.proofs.Written.{only-written}
 use Rattle.record.proofs.Survivors.{restored-lost, restored-kept, survivors-lost, survivors-kept}
 use Rattle.record.proofs.Refusals.{first-zero}
@@ -49,7 +49,7 @@ head-numbers s e =
     let d = first-zero (numberRefusal (fourthNumber s)) _ (c .1) in
     record { one = a .0; two = b .0; three = c .0; four = d .0 }
 
-joined : (a b c d e f rest : List ℕ) → a ++ (b ++ (c ++ (d ++ (e ++ (f ++ rest))))) ≡ (a ++ (b ++ (c ++ (d ++ (e ++ f))))) ++ rest
+pub joined : (a b c d e f rest : List ℕ) → a ++ (b ++ (c ++ (d ++ (e ++ (f ++ rest))))) ≡ (a ++ (b ++ (c ++ (d ++ (e ++ f))))) ++ rest
 joined a b c d e f rest = simp append-assoc
 
 pub head-splits : (s : List ℕ) → Bytes s → Accepted s → s ≡ recordHead (shapeOf s) (lostOf s) ++ drop (columnsStart s) s

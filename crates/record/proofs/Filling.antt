@@ -13,7 +13,8 @@ use Rattle.stripe.specs.Shape.{columns, stripeLength}
 use Rattle.record.specs.declared.read.Got.{Got}
 use Rattle.record.specs.declared.read.Verdict.the-variants.{Lawful}
 use Rattle.record.specs.Layout.{kept, restored}
-use Rattle.record.specs.Reading.{unless, nextOf, countNumber, shapeOf, countOf, lostOf, columnsStart, positionsAt, contentRefusal, verdictOf, readRefusal, gotOf, columnsFilled, positionsFilled, stripeRead, lostRead}
+use Rattle.number.specs.Number.{nextOf}
+use Rattle.record.specs.Reading.{unless, countNumber, shapeOf, countOf, lostOf, columnsStart, positionsAt, contentRefusal, verdictOf, readRefusal, gotOf, columnsFilled, positionsFilled, stripeRead, lostRead}
 use Rattle.record.proofs.Refusals.{stop, skip, only, passed, failed}
 use Rattle.record.proofs.Accepted.{Accepted, accepted, lawful-says, ascending-below, kept-lost, positions-length}
 

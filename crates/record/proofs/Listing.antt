@@ -11,8 +11,8 @@ use lib.Seq.{take-suc-set, drop-set-lt, append-snoc}
 use borrow.Author.Tests.{leb-true}
 use Rattle.number.specs.declared.Number.{Number}
 use Rattle.number.specs.declared.Number.the-variants.{Value, Cut, Malformed}
-use Rattle.number.specs.Number.{numberAt, limited, groupsAt}
-use Rattle.record.specs.Reading.{valueOf, nextOf, positionsAt}
+use Rattle.number.specs.Number.{numberAt, limited, groupsAt, valueOf, nextOf}
+use Rattle.record.specs.Reading.{positionsAt}
 
 -- a number is at most 2^32-1
 limited-most : (g : Number) → valueOf (limited g) ≤ 4294967295

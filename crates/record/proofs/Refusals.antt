@@ -15,8 +15,8 @@ use Rattle.record.specs.declared.read.Got.{Got}
 use Rattle.record.specs.declared.read.Head.the-variants.{Shaped, Unshaped}
 use Rattle.record.specs.declared.read.Listed.the-variants.{Upto, Unlisted}
 use Rattle.record.specs.declared.read.Verdict.the-variants.{Lawful, Refused}
-use Rattle.number.specs.Number.{numberAt, numberRefusal}
-use Rattle.record.specs.Reading.{firstOf, unless, valueOf, nextOf, firstNumber, secondNumber, thirdNumber, fourthNumber, countNumber, shapeOf, countOf, columnsStart, stripeRefusal, headRefusal, positionRefusal, positionsRefusal, afterPositions, columnsRefusal, restRefusal, contentRefusal, headOf, listedOf, restOf, verdictOf}
+use Rattle.number.specs.Number.{numberAt, numberRefusal, valueOf, nextOf}
+use Rattle.record.specs.Reading.{firstOf, unless, firstNumber, secondNumber, thirdNumber, fourthNumber, countNumber, shapeOf, countOf, columnsStart, stripeRefusal, headRefusal, positionRefusal, positionsRefusal, afterPositions, columnsRefusal, restRefusal, contentRefusal, headOf, listedOf, restOf, verdictOf}
 
 -- ---- the first of several
 

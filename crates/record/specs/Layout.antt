@@ -1,13 +1,12 @@
 -- The layout of a record (document 01, 'Stripe records'): k, r, t, L, the number of lost columns, their positions ascending, then the
 -- surviving columns whole, in order.
-use Prim.Native.Nat.{ℕ, zero, suc, _+_, _≤_}
-use mathlib.Core.Path.{_≡_}
+use Prim.Native.Nat.{ℕ, zero, suc, _+_}
 use mathlib.Core.Bool.{cond}
 use mathlib.Core.List.{List, [], _∷_, _++_}
 use lib.ListN.{length, take, drop}
 use Rattle.stripe.specs.declared.Shape.{Shape}
-use Rattle.stripe.specs.Shape.{shapeRefusal, columns, stripeLength}
-use Rattle.stripe.specs.Stripe.{among, Ascending}
+use Rattle.stripe.specs.Shape.{columns}
+use Rattle.stripe.specs.Stripe.{among}
 use Rattle.number.specs.Number.{written}
 
 -- the positions of the lost columns, one number after the other
@@ -32,17 +31,6 @@ recordHead s es = written (s .k) ++ (written (s .r) ++ (written (s .t) ++ (writt
 -- the record of a stripe xs whose columns es are lost
 unfoldable pub recordOf : Shape → List ℕ → List ℕ → List ℕ
 recordOf s es xs = recordHead s es ++ survivors (s .l) es 0 (columns s) xs
-
--- the bytes of some record: an allowed shape, at most 65,536 bytes of stripe, lost positions ascending and below n
-pub record LaidOut (s : List ℕ) : Type 0 where
-  pub shape : Shape
-  pub lost : List ℕ
-  pub stripe : List ℕ
-  pub allowed : shapeRefusal shape ≡ 0
-  pub short : stripeLength shape ≤ 65536
-  pub ascending : Ascending 0 (columns shape) lost
-  pub exact : length stripe ≡ stripeLength shape
-  pub bytes : s ≡ recordOf shape lost stripe
 
 -- a stripe buffer xs whose surviving columns are taken from ys, one after the other; lost columns and what follows the last column stay
 unfoldable pub restored : ℕ → List ℕ → ℕ → ℕ → List ℕ → List ℕ → List ℕ

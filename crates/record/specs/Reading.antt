@@ -8,7 +8,6 @@ use lib.ListN.{length, drop}
 use Rattle.stripe.specs.declared.Shape.{Shape}
 use Rattle.stripe.specs.Shape.{shapeRefusal, columns, stripeLength}
 use Rattle.number.specs.declared.Number.{Number}
-use Rattle.number.specs.declared.Number.the-variants.{Value, Cut, Malformed}
 use Rattle.record.specs.declared.read.Got.{Got}
 use Rattle.record.specs.declared.read.Head.{Head}
 use Rattle.record.specs.declared.read.Head.the-variants.{Shaped, Unshaped}
@@ -16,7 +15,7 @@ use Rattle.record.specs.declared.read.Listed.{Listed}
 use Rattle.record.specs.declared.read.Listed.the-variants.{Upto, Unlisted}
 use Rattle.record.specs.declared.read.Verdict.{Verdict}
 use Rattle.record.specs.declared.read.Verdict.the-variants.{Lawful, Refused}
-use Rattle.number.specs.Number.{numberAt, numberRefusal}
+use Rattle.number.specs.Number.{numberAt, numberRefusal, valueOf, nextOf}
 use Rattle.record.specs.Layout.{restored}
 
 -- the first refusal of several, 0 where there is none
@@ -28,16 +27,6 @@ firstOf (suc x ∷ xs) = suc x
 -- a refusal given exactly when a test fails
 abbrev pub unless : Bool → ℕ → ℕ
 unless b x = cond b 0 x
-
-abbrev pub valueOf : Number → ℕ
-valueOf (Value v next) = v
-valueOf Cut = 0
-valueOf Malformed = 0
-
-abbrev pub nextOf : Number → ℕ
-nextOf (Value v next) = next
-nextOf Cut = 0
-nextOf Malformed = 0
 
 -- the four numbers of the shape, and the lost count, each after the one before
 abbrev pub firstNumber : List ℕ → Number

@@ -8,7 +8,8 @@ ghost use mathlib.Core.Path.{_≡_};
 ghost use mathlib.Core.List.{_++_};
 ghost use Prim.Native.Nat.{ℕ, _+_, _-_, _<_, _≤_};
 ghost use lib.ListN.{length, getD, drop};
-ghost use Rattle.record.specs.Reading.{valueOf, nextOf, stripeRefusal, headOf, positionRefusal, listedOf, columnsRefusal, restOf, verdictOf, positionsAt, columnsFilled, positionsFilled, gotOf, stripeRead, lostRead};
+ghost use Rattle.number.specs.Number.{valueOf, nextOf};
+ghost use Rattle.record.specs.Reading.{stripeRefusal, headOf, positionRefusal, listedOf, columnsRefusal, restOf, verdictOf, positionsAt, columnsFilled, positionsFilled, gotOf, stripeRead, lostRead};
 
 // What reading reports: 0, the shape and the number of lost columns; or a refusal, and zeros.
 pub struct Got {

@@ -12,11 +12,11 @@ use borrow.Rule.Slice.PartMut.{putMid}
 use Rattle.field.specs.Field.{_⊕_}
 use Rattle.field.specs.Row.{row}
 use Rattle.field.proofs.Bytes.{tabulate-length, tabulate-at}
+use Rattle.field.proofs.Cases.{below-or-from}
 use Rattle.lanes.specs.Lanes.{onto}
 use Rattle.lanes.proofs.Onto.{onto-at, onto-past, onto-length}
 use Rattle.lanes.proofs.Parts.{part-length, part-at, back-length, back-inside, back-outside}
 use Rattle.stripe.specs.Stripe.{across}
-use Rattle.stripe.proofs.Places.{below-or-from}
 use Rattle.rows.specs.Rows.{RowIn, Added, runFits, rowFrom, added}
 
 -- what the sum of a part and a block leaves of the whole

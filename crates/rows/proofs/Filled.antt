@@ -3,7 +3,7 @@ use mathlib.Core.Path.{_≡_, sym, ap, ap₂, _∙_, subst}
 use mathlib.Core.Bool.{Bool, true, false, cond}
 use mathlib.Core.List.{List}
 use mathlib.Core.Logic.{_⊎_, inl, inr, ⊎-elim}
-use Prim.Native.Nat.{ℕ, zero, suc, _+_, _*_, _-_, _/_, _%_, _<_, _≤_}
+use Prim.Native.Nat.{ℕ, zero, suc, _+_, _*_, _-_, _<_, _≤_}
 use native.Mathlib.Nat.{mul-le-mul-right, suc-mul, not-suc-le-zero, le-of-suc-le-suc}
 use native.Mathlib.Omega.{arith}
 use lib.Dec.{lit<}
@@ -12,12 +12,13 @@ use borrow.Rule.Slice.PartMut.{putMid}
 use borrow.Author.Count.{below-more}
 use Rattle.field.specs.Row.{row}
 use Rattle.field.proofs.Bytes.{tabulate-length, tabulate-at}
+use Rattle.field.proofs.Cases.{below-or-from}
 use Rattle.lanes.specs.Lanes.{onto}
 use Rattle.lanes.proofs.Onto.{onto-at, onto-length}
 use Rattle.stripe.specs.Stripe.{across}
 use Rattle.rows.specs.Rows.{RowIn, RowsBelow, Put, rowsFit, rowsOf, filled}
 use Rattle.lanes.proofs.Parts.{part-length, back-length, back-inside, back-outside}
-use Rattle.stripe.proofs.Places.{below-or-from, place-lt, place-column, place-byte, by-places}
+use Rattle.stripe.proofs.Places.{place-lt, place-column, place-byte, by-places}
 
 -- what `copy` into a part leaves of the whole
 pub put-copied : (xs b ys : List ℕ) (at n : ℕ) → at + n ≤ length xs → n ≤ length b

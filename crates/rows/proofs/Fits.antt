@@ -1,16 +1,11 @@
 -- Numbers that fit, as plain facts: each is one test.
 use mathlib.Core.Path.{_≡_, refl, sym, ap, _∙_}
-use mathlib.Core.Bool.{Bool, true, false, cond, _&&_}
+use mathlib.Core.Bool.{Bool, true, false, _&&_, and-eq-true-iff}
 use Prim.Native.Nat.{ℕ, _+_, _-_, _*_, _<_, _≤_}
-use native.Mathlib.Nat.{suc-ne-zero}
 use native.Mathlib.Omega.{arith}
 use lib.Dec.{leb}
 use borrow.Author.Tests.{leb-true, leb-false, ltb-true, eqb-true, le-leb, lt-leb, lt-ltb, eq-eqb}
 use Rattle.rows.specs.Rows.{columnsFit, rowsFit, runFits}
-
-and-both : (a b : Bool) → a && b ≡ true → (a ≡ true) × (b ≡ true)
-and-both true b e = (refl, e)
-and-both false b e = absurd (suc-ne-zero 0 (sym (ap (λ (x : Bool). cond x 1 0) e)))
 
 and-of : (a b : Bool) → a ≡ true → b ≡ true → a && b ≡ true
 and-of a b e f = ap (λ (x : Bool). x && b) e ∙ f
@@ -24,9 +19,9 @@ pub record Columns (d k l : ℕ) : Type 0 where
 pub columns-fit : (d k l : ℕ) → columnsFit d k l ≡ true → Columns d k l
 unfolding columnsFit
 columns-fit d k l e =
-    let t = and-both _ _ e in
-    let u = and-both _ _ (t .0) in
-    let v = and-both _ _ (u .0) in
+    let t = and-eq-true-iff _ _ .0 e in
+    let u = and-eq-true-iff _ _ .0 (t .0) in
+    let v = and-eq-true-iff _ _ .0 (u .0) in
     record { long = eqb-true _ _ (t .1); some = leb-true _ _ (v .0); most = leb-true _ _ (v .1); length-most = leb-true _ _ (u .1) }
 
 pub fit-columns : (d k l : ℕ) → Columns d k l → columnsFit d k l ≡ true
@@ -41,9 +36,9 @@ pub record Rows (d k l r n : ℕ) : Type 0 where
 
 pub rows-fit : (d k l r n : ℕ) → rowsFit d k l r n ≡ true → Rows d k l r n
 rows-fit d k l r n e =
-    let t = and-both _ _ e in
-    let u = and-both _ _ (t .1) in
-    let v = and-both _ _ (u .0) in
+    let t = and-eq-true-iff _ _ .0 e in
+    let u = and-eq-true-iff _ _ .0 (t .1) in
+    let v = and-eq-true-iff _ _ .0 (u .0) in
     record { columns = columns-fit d k l (t .0); some = leb-true _ _ (v .0); most = leb-true _ _ (v .1); long = eqb-true _ _ (u .1) }
 
 pub fit-rows : (d k l r n : ℕ) → Rows d k l r n → rowsFit d k l r n ≡ true
@@ -57,8 +52,8 @@ pub record Run (d k l j from n : ℕ) : Type 0 where
 
 pub run-fits : (d k l j from n : ℕ) → runFits d k l j from n ≡ true → Run d k l j from n
 run-fits d k l j from n e =
-    let t = and-both _ _ e in
-    let u = and-both _ _ (t .1) in
+    let t = and-eq-true-iff _ _ .0 e in
+    let u = and-eq-true-iff _ _ .0 (t .1) in
     record { columns = columns-fit d k l (t .0); row = ltb-true _ _ (u .0); inside = leb-true _ _ (u .1) }
 
 pub fit-run : (d k l j from n : ℕ) → Run d k l j from n → runFits d k l j from n ≡ true

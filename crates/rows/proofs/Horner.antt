@@ -2,7 +2,7 @@
 -- with the column before, row j of one column more.
 use mathlib.Core.Path.{_≡_, refl, sym, ap, ap₂, _∙_}
 use mathlib.Core.Bool.{Bool, cond}
-use mathlib.Core.List.{List, [], _∷_}
+use mathlib.Core.List.{List}
 use Prim.Native.Nat.{ℕ, zero, suc, _+_, _*_, _-_, _<_, _≤_}
 use native.Mathlib.Omega.{arith}
 use native.Mathlib.Nat.{mul-le-mul-right, zero-mul}
@@ -12,9 +12,9 @@ use lib.ListN.{length, getD, take, drop}
 use Rattle.field.specs.Field.{_⊕_, _⊗_, gpow, power, shifted, doubled}
 use Rattle.field.specs.Bytes.{Bytes}
 use Rattle.field.specs.Row.{row}
-use Rattle.field.proofs.Xor.{add-comm, add-assoc, add-zero}
-use Rattle.field.proofs.Mul.{one-mul, mul-zero, mul-add, mul-assoc, gpow-zero}
-use Rattle.field.proofs.Rows.{row-nil, row-cons, row-lt}
+use Rattle.field.proofs.Xor.{add-comm, add-assoc}
+use Rattle.field.proofs.Mul.{one-mul, mul-add, mul-assoc, gpow-zero}
+use Rattle.field.proofs.Rows.{row-cons, row-lt, row-one}
 use Rattle.lanes.specs.Lanes.{onto, both}
 use Rattle.lanes.proofs.Onto.{onto-at, onto-length, both-at, both-long}
 use Rattle.stripe.specs.Stripe.{across}
@@ -66,19 +66,10 @@ column-before len k l i o e h p d =
     let q : (i - 1 + 1) * l ≡ i * l = ap (λ (x : ℕ). x * l) (omega arith) in
     (omega (arith, mul-le-mul-right l p), (omega (arith, mul-le-mul-right l h), omega (arith, q)))
 
-row-one : (j x : ℕ) → x < 256 → row j (x ∷ []) ≡ x
-row-one j x h = row-cons j x [] h ∙ ap (λ (y : ℕ). x ⊕ gpow j ⊗ y) (row-nil j) ∙ ap (λ (y : ℕ). x ⊕ y) (mul-zero (gpow j)) ∙ add-zero x
-
 -- a of w bytes holds row j of the m columns from o on, at the n places from `from` on
 pub record Held (xs : List ℕ) (l from n w j o m : ℕ) (a : List ℕ) : Type 0 where
   pub long : length a ≡ w
   pub at : (q : ℕ) → q < n → getD a q 0 ≡ row j (across xs l (from + q) o m)
-
--- what `copy` of a part leaves in a block
-pub copied : (xs a b : List ℕ) (at n : ℕ) → at + n ≤ length xs → n ≤ length a → b ≡ onto (λ (x y : ℕ). y) a (take (at + n - at) (drop at xs))
-    → (q : ℕ) → q < n → getD b q 0 ≡ getD xs (at + q) 0
-copied xs a b at n fits long is q h =
-    ap (λ (x : List ℕ). getD x q 0) is ∙ onto-at (λ (x y : ℕ). y) a _ q (omega arith) (omega (arith, part-length xs at n fits)) ∙ part-at xs at n q h
 
 -- a list that holds the bytes of one column
 pub first : (xs : List ℕ) (l from n w j o m : ℕ) (a : List ℕ) → Bytes xs → length a ≡ w → m ≡ 1 → ((q : ℕ) → q < n → getD a q 0 ≡ getD xs (o + from + q) 0)

@@ -1,7 +1,7 @@
 // Rows of whole columns, filled into a buffer or added to a run, in blocks of 64 places. The rows of a block are formed together, by
-// Horner's rule from the last column to the first, in local arrays that the steps of `lanes` are lent. Each count of rows has its own
-// functions, and a block has the literal length 64: so the compiler keeps it in registers. The last block of a column ends where the
-// column ends, over bytes that are there already; only a column shorter than a block is taken row by row.
+// Horner's rule from the last column to the first, in local arrays that the loops of `lanes` and `steps` are lent. Each count of rows
+// has its own functions, and a block has the literal length 64: so the compiler keeps it in registers. The last block of a column ends
+// where the column ends, over bytes that are there already; only a column shorter than a block is taken row by row.
 use lanes::add;
 use lanes::copy;
 use steps::double_add;

@@ -1,9 +1,8 @@
 -- The list after i stores: the first i spans of the plan, and after them what the list held.
-use Prim.Native.Nat.{ℕ, zero, suc, _+_, _≤_, _<_}
+use Prim.Native.Nat.{ℕ, suc, _+_, _≤_, _<_}
 use mathlib.Core.Path.{_≡_, refl, sym, ap, subst, _∙_}
 use mathlib.Core.List.{List, [], _∷_, _++_, append-assoc}
 use mathlib.Core.Bool.{Bool, true, false, cond}
-use mathlib.Core.Logic.{_⊎_, inl, inr, ⊎-elim}
 use native.Mathlib.Omega.{arith}
 use native.Mathlib.Numerals.{add-one}
 use lib.ListN.{length, set, getD, take, drop, length-append, length-drop}
@@ -62,8 +61,3 @@ written-plan s n f room = subst (λ (x : ℕ). spansWritten s n f room ≤ x) (s
 pub front-done : (s : Shape) (n f : ℕ) (xs : List Span) → front (plan s n f) (spansWritten s n f (length xs)) xs ≡ spansFilled s n f xs
 unfolding spansWritten spansFilled
 front-done s n f xs = done-by (plan s n f) xs (columnsRead s n f) (sym (columns-counted s n f)) (eqb (spansRefusal s n f (length xs)) 0)
-
-pub lt-or-ge : (a b : ℕ) → (a < b) ⊎ (b ≤ a)
-lt-or-ge a zero = inr (omega arith)
-lt-or-ge zero (suc b) = inl (omega arith)
-lt-or-ge (suc a) (suc b) = ⊎-elim (λ p. inl (omega arith)) (λ q. inr (omega arith)) (lt-or-ge a b)

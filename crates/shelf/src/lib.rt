@@ -14,7 +14,7 @@ ghost use mathlib.Core.Path.{_≡_};
 ghost use lib.ListN.{length};
 ghost use Rattle.coding.specs.Encode.{encodeRefusal, encoded};
 ghost use Rattle.plan.specs.Plan.{foldRefusal, columnsRead, bytesRead, spanAt};
-ghost use Rattle.fold.specs.Shares.{foldVerdict, foldFilled};
+ghost use Rattle.fold.specs.Fold.{foldVerdict, foldFilled};
 ghost use Rattle.mending.specs.Mend.{Mended};
 ghost use Rattle.shelf.specs.Shelf.{shapeOf, spansRefusal, spansAnswer, spansFilled};
 

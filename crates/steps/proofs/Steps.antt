@@ -1,9 +1,9 @@
--- Twice a byte, half of one, and sixteen times one with four times another, by shifts.
+-- Twice a byte, and sixteen times one with four times another, by shifts.
 use mathlib.Core.Path.{_≡_, refl, sym, ap, ap₂, _∙_}
-use mathlib.Core.Bool.{Bool, cond}
+use mathlib.Core.Bool.{Bool}
 use Prim.Native.Nat.{ℕ, _*_, _/_, _%_, _<_}
 use native.Mathlib.Omega.{arith}
-use lib.Bits.{bitXor, bitAnd}
+use lib.Bits.{bitXor}
 use lib.Dec.{eqb, ltb, eqb→eq, ltb→lt}
 use Rattle.field.specs.Field.{_⊕_, _⊗_, doubled, shifted}
 use Rattle.field.proofs.Xor.{add-assoc, add-lt, sums}
@@ -17,21 +17,6 @@ twice-ok x = eqb (bitXor (x % 128 * 2) (x / 128 * 29)) (2 ⊗ x)
 pub twice : (x : ℕ) → x < 256 → bitXor (x % 128 * 2) (x / 128 * 29) ≡ 2 ⊗ x
 unfolding twice-ok _⊗_ shifted doubled _⊕_
 twice x h = eqb→eq (bitXor (x % 128 * 2) (x / 128 * 29)) (2 ⊗ x) (below twice-ok 256 tt x h)
-
--- a half: the lowest bit comes back as half of 1
-half-ok : ℕ → Bool
-half-ok x = eqb (bitXor (x / 2) (cond (eqb (bitAnd x 1) 0) 0 142)) (142 ⊗ x)
-
-pub half : (x : ℕ) → x < 256 → bitXor (x / 2) (cond (eqb (bitAnd x 1) 0) 0 142) ≡ 142 ⊗ x
-unfolding half-ok _⊗_ shifted doubled _⊕_
-half x h = eqb→eq (bitXor (x / 2) (cond (eqb (bitAnd x 1) 0) 0 142)) (142 ⊗ x) (below half-ok 256 tt x h)
-
-half-half : 142 ⊗ 142 ≡ 71
-unfolding _⊗_ shifted doubled _⊕_
-half-half = refl
-
-pub quarter : (x : ℕ) → 142 ⊗ (142 ⊗ x) ≡ 71 ⊗ x
-quarter x = sym (mul-assoc 142 142 x) ∙ ap (λ (y : ℕ). y ⊗ x) half-half
 
 -- four bits, and what they come back as
 carry : ℕ → ℕ

@@ -10,10 +10,6 @@ use Rattle.steps.proofs.quadruple_add as quadruple-add
 use Rattle.steps.proofs.quadruple_add.Reads as quadruple-add-reads
 use Rattle.steps.proofs.quadruple_add_two as quadruple-add-two
 use Rattle.steps.proofs.quadruple_add_two.Reads as quadruple-add-two-reads
-use Rattle.steps.proofs.halve_add as halve-add
-use Rattle.steps.proofs.halve_add.Reads as halve-add-reads
-use Rattle.steps.proofs.quarter_add as quarter-add
-use Rattle.steps.proofs.quarter_add.Reads as quarter-add-reads
 use Rattle.steps.proofs.double as double
 use Rattle.steps.proofs.double.Reads as double-reads
 use Rattle.steps.proofs.mask as mask
@@ -30,14 +26,6 @@ quadruple-add-unique κs a r r′ s s′ p q = p ∙ sym q
 pub quadruple-add-two-unique : (κs : Lfts 3) (a : ArgsD quadruple-add-two.signature κs) (r r′ : ResD quadruple-add-two.signature κs) (s s′ : AtExit quadruple-add-two.ended κs)
     → quadruple-add-two-reads.Post κs a r s → quadruple-add-two-reads.Post κs a r′ s′ → now (s .0) ≡ now (s′ .0)
 quadruple-add-two-unique κs a r r′ s s′ p q = p ∙ sym q
-
-pub halve-add-unique : (κs : Lfts 2) (a : ArgsD halve-add.signature κs) (r r′ : ResD halve-add.signature κs) (s s′ : AtExit halve-add.ended κs)
-    → halve-add-reads.Post κs a r s → halve-add-reads.Post κs a r′ s′ → now (s .0) ≡ now (s′ .0)
-halve-add-unique κs a r r′ s s′ p q = p ∙ sym q
-
-pub quarter-add-unique : (κs : Lfts 2) (a : ArgsD quarter-add.signature κs) (r r′ : ResD quarter-add.signature κs) (s s′ : AtExit quarter-add.ended κs)
-    → quarter-add-reads.Post κs a r s → quarter-add-reads.Post κs a r′ s′ → now (s .0) ≡ now (s′ .0)
-quarter-add-unique κs a r r′ s s′ p q = p ∙ sym q
 
 pub double-unique : (κs : Lfts 0) (a : ArgsD double.signature κs) (r r′ : ResD double.signature κs) (s s′ : AtExit double.ended κs)
     → double-reads.Post κs a r s → double-reads.Post κs a r′ s′ → r ≡ r′

@@ -1,4 +1,4 @@
-// The steps of rows 1 and 2, upwards and downwards: loops over byte slices that multiply by a fixed byte, made of shifts.
+// The steps of rows 1 and 2: loops over byte slices that multiply by 2, 4 or 16 and add, made of shifts.
 use lanes::shorter;
 ghost use mathlib.Core.Path.{_≡_};
 ghost use mathlib.Core.Bool.{cond};
@@ -45,42 +45,11 @@ pub fn quadruple_add_two(a: &mut [u8], d: &[u8], e: &[u8])
     }
 }
 
-// At each place half the sum of the two.
-pub fn halve_add(a: &mut [u8], d: &[u8])
-    ensures { λ _. ⌜ now (a .exit) ≡ onto (λ (x y : ℕ). 142 ⊗ (x ⊕ y)) (now (a .entry)) (now (d .entry)) ⌝ }
-{
-    let n = shorter(a.len(), d.len());
-    let mut q = 0;
-    while q < n {
-        a[q] = halve(a[q] ^ d[q]);
-        q += 1;
-    }
-}
-
-// At each place a quarter of the sum of the two.
-pub fn quarter_add(a: &mut [u8], d: &[u8])
-    ensures { λ _. ⌜ now (a .exit) ≡ onto (λ (x y : ℕ). 71 ⊗ (x ⊕ y)) (now (a .entry)) (now (d .entry)) ⌝ }
-{
-    let n = shorter(a.len(), d.len());
-    let mut q = 0;
-    while q < n {
-        a[q] = halve(halve(a[q] ^ d[q]));
-        q += 1;
-    }
-}
-
 // Twice x.
 pub fn double(x: u8) -> u8
     ensures { λ v. ⌜ v ≡ 2 ⊗ x ⌝ }
 {
     ((x % 128) * 2) ^ ((x / 128) * 29)
-}
-
-// Half of x: the lowest bit comes back as 142, which is half of 1.
-fn halve(x: u8) -> u8
-    ensures { λ v. ⌜ v ≡ 142 ⊗ x ⌝ }
-{
-    (x / 2) ^ mask(x, 1, 142)
 }
 
 // Sixteen times x and four times y: the highest bits of both come back together times x^4 + x^3 + x^2 + 1.

@@ -1,5 +1,5 @@
 -- What an allowed shape says, as plain facts about its numbers: each is read off from one test of `shapeRefusal`.
-use mathlib.Core.Path.{_≡_, refl, sym, ap, _∙_}
+use mathlib.Core.Path.{_≡_, refl, ap, _∙_}
 use mathlib.Core.Bool.{Bool, true, false, cond, _&&_, _||_}
 use mathlib.Core.Logic.{_⊎_, inl, inr}
 use Prim.Native.Nat.{ℕ, zero, suc, _*_, _/_, _%_, _<_, _≤_}
@@ -7,6 +7,7 @@ use native.Mathlib.Nat.{mul-le-mul, mul-le-mul-right, div-one, one-mul, suc-ne-z
 use native.Mathlib.Omega.{arith}
 use lib.Dec.{leb, ltb, eqb}
 use borrow.Author.Tests.{ltb-true, leb-true, eqb-true, eq-eqb, ne-eqb}
+use Rattle.field.proofs.Cases.{and-left, and-right}
 use Rattle.stripe.specs.declared.Shape.{Shape}
 use Rattle.stripe.specs.Shape.{shapeRefusal, dataAllowed, parityAllowed, markAllowed, lengthAllowed, dataLength, parityLength, stripeLength}
 use Rattle.stripe.specs.Stripe.{runs, runLength}
@@ -33,14 +34,6 @@ pub record Allowed (s : Shape) : Type 0 where
   pub data-length : dataLength s ≤ 1044480
   pub parity-length : parityLength s ≤ 12288
   pub stripe-length : stripeLength s ≤ 1056768
-
-and-left : (a b : Bool) → (a && b) ≡ true → a ≡ true
-and-left true b e = refl
-and-left false b e = e
-
-and-right : (a b : Bool) → (a && b) ≡ true → b ≡ true
-and-right true b e = e
-and-right false b e = absurd (suc-ne-zero 0 (sym (ap (λ (x : Bool). cond x 1 0) e)))
 
 or-cases : (a b : Bool) → (a || b) ≡ true → (a ≡ true) ⊎ (b ≡ true)
 or-cases true b e = inl refl

@@ -7,9 +7,10 @@ use Prim.Native.Nat.{ℕ, _+_, _*_, _/_, _%_, _<_, _≤_}
 use lib.ListN.{getD}
 use Rattle.field.specs.Field.{_⊕_}
 use Rattle.field.specs.Row.{row}
+use Rattle.field.proofs.Cases.{below-or-from}
 use Rattle.stripe.specs.declared.Shape.{Shape}
 use Rattle.stripe.specs.Stripe.{rowAt, runLength, piggyback, parityByte}
-use Rattle.stripe.proofs.Places.{below-or-from, across-agree, piggyback-none, piggyback-some}
+use Rattle.stripe.proofs.Places.{across-agree, piggyback-none, piggyback-some}
 
 -- two lists of data agree at place p of every data column
 abbrev pub AgreeAt : Shape → ℕ → List ℕ → List ℕ → Type 0

@@ -4,16 +4,16 @@ use mathlib.Core.Path.{_≡_, refl, ap, _∙_}
 use mathlib.Core.Bool.{Bool, true, false, cond, _&&_}
 use mathlib.Core.List.{List, []}
 use mathlib.Core.Logic.{⊎-elim}
-use native.Mathlib.Nat.{mul-le-mul-right, add-mul, one-mul}
 use native.Mathlib.Omega.{arith}
 use borrow.Author.Tests.{eq-eqb, ne-eqb, eqb-true, eqb-false, lt-ltb, le-ltb}
 use lib.Dec.{eqb}
 use lib.ListN.{length, take, drop, length-take, length-drop}
+use Rattle.field.proofs.Cases.{below-or-from}
 use Rattle.stripe.specs.declared.Shape.{Shape}
 use Rattle.stripe.specs.Shape.{shapeRefusal, columns, dataLength, parityLength}
 use Rattle.stripe.specs.Column.{lentRefusal, columnIn, columnOf}
 use Rattle.stripe.proofs.Allowed.{allowed}
-use Rattle.stripe.proofs.Places.{below-or-from}
+use Rattle.stripe.proofs.Places.{column-inside}
 
 -- an allowed shape, and two buffers of the lengths stated
 pub record Lent (s : Shape) (d p : ℕ) : Type 0 where
@@ -56,7 +56,7 @@ module _ (s : Shape) (d p : ℕ) where
 
 -- column c of m columns of l bytes ends within them
 pub within : (c m l n : ℕ) → c < m → n ≡ m * l → c * l + l ≤ n
-within c m l n h e = omega (arith, mul-le-mul-right {m = c + 1} {n = m} l (omega arith), add-mul c 1 l, one-mul l)
+within c m l n h e = omega (arith, column-inside c m l h)
 
 part-long : (xs : List ℕ) (c l : ℕ) → c * l + l ≤ length xs → length (take l (drop (c * l) xs)) ≡ l
 part-long xs c l h = simp (length-take, length-drop) (omega arith)

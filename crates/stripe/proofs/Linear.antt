@@ -4,11 +4,11 @@ use mathlib.Core.Bool.{Bool, true, false, cond}
 use mathlib.Core.List.{List, [], _∷_}
 use Prim.Native.Nat.{ℕ, zero, suc, _+_, _*_, _/_, _%_, _<_}
 use lib.Dec.{ltb}
-use lib.ListN.{length, getD, take, replicate, length-replicate}
+use lib.ListN.{length, getD, take}
 use Rattle.field.specs.Field.{_⊕_}
 use Rattle.field.specs.Bytes.{_⊞_}
 use Rattle.field.specs.Row.{row}
-use Rattle.field.proofs.Xor.{add-self, zero-add, sums}
+use Rattle.field.proofs.Xor.{zero-add, sums}
 use Rattle.field.proofs.Bytes.{add-length, add-at, add-bytes}
 use Rattle.field.proofs.Rows.{row-add}
 use Rattle.stripe.specs.declared.Shape.{Shape}
@@ -61,21 +61,6 @@ take-add-lists zero xs ys = refl
 take-add-lists (suc n) [] ys = refl
 take-add-lists (suc n) (x ∷ xs) [] = refl
 take-add-lists (suc n) (x ∷ xs) (y ∷ ys) = ap (λ (zs : List ℕ). (x ⊕ y) ∷ zs) (take-add-lists n xs ys)
-
--- ---- zeros
-
--- a list plus itself is zeros
-pub add-same : (xs : List ℕ) → xs ⊞ xs ≡ replicate (length xs) 0
-unfolding _⊞_
-add-same [] = refl
-add-same (x ∷ xs) = ap₂ _∷_ (add-self x) (add-same xs)
-
-pub parity-zeros : (s : Shape) (n : ℕ) → parity s (replicate n 0) ≡ replicate (parityLength s) 0
-parity-zeros s n =
-    ap (parity s) (sym (add-same (replicate n 0) ∙ ap (λ (m : ℕ). replicate m 0) (length-replicate n 0)))
-    ∙ parity-add s (replicate n 0) (replicate n 0) refl
-    ∙ add-same (parity s (replicate n 0))
-    ∙ ap (λ (m : ℕ). replicate m 0) (parity-length s (replicate n 0))
 
 -- ---- codewords
 

@@ -11,8 +11,8 @@ use lib.Dec.{ltb, eqb}
 use lib.ListN.{length, getD, drop, drop-of-length-le}
 use lib.Seq.{drop-cons}
 use borrow.Author.Tests.{lt-ltb, le-ltb, eq-eqb, ne-eqb}
+use Rattle.field.proofs.Cases.{below-or-from}
 use Rattle.stripe.specs.Stripe.{among, Ascending}
-use Rattle.stripe.proofs.Places.{below-or-from}
 use Rattle.stripe.proofs.Survivors.{countTrue, count-same, count-none, count-more}
 
 -- the positions below k

@@ -17,11 +17,12 @@ use Rattle.field.specs.Row.{row}
 use Rattle.field.proofs.Xor.{add-lt, sums}
 use Rattle.field.proofs.Bytes.{tabulate-length, tabulate-at, tabulate-bytes}
 use Rattle.field.proofs.Rows.{row-lt}
+use Rattle.field.proofs.Cases.{below-or-from}
 use Rattle.stripe.specs.declared.Shape.{Shape}
 use Rattle.stripe.specs.Shape.{columns, dataLength}
-use Rattle.stripe.specs.Stripe.{across, rowAt, runs, runLength, piggyback, parityByte, parity, dataOf, Codeword, among, Ascending, Agree}
+use Rattle.stripe.specs.Stripe.{across, rowAt, runLength, parityByte, parity, dataOf, Codeword, among, Ascending, Agree}
 use Rattle.stripe.proofs.Allowed.{Allowed}
-use Rattle.stripe.proofs.Places.{below-or-from, place-lt, place-column, place-byte, by-places, across-length, across-first, across-bytes, parity-below, parity-from, row-at-stripe, codeword-checks, data-of-length, encoded-data, encoded-codeword, codeword-encoded, run-place-lt, run-place-run}
+use Rattle.stripe.proofs.Places.{place-lt, place-column, place-byte, by-places, across-length, across-first, across-bytes, parity-below, parity-from, row-at-stripe, codeword-checks, data-of-length, encoded-data, encoded-codeword, codeword-encoded, run-place-lt, run-place-run}
 use Rattle.stripe.proofs.Errors.{AgreeOff}
 use Rattle.stripe.proofs.Word.{SurvivingRows, wordMended, word-mended-length, word-mended-bytes, word-mended-agrees, word-only, word-completed}
 
@@ -81,7 +82,7 @@ pub word-length : (s : Shape) (es xs : List ℕ) (p : ℕ) → length (wordAt s 
 unfolding wordAt
 word-length s es xs p = word-mended-length (s .k) es (dataAt s xs p) (wanted s es xs p) ∙ across-length xs (s .l) p 0 (s .k)
 
-wanted-lt : (s : Shape) (es xs : List ℕ) (p j : ℕ) → Bytes xs → wanted s es xs p j < 256
+pub wanted-lt : (s : Shape) (es xs : List ℕ) (p j : ℕ) → Bytes xs → wanted s es xs p j < 256
 wanted-lt s es xs p j b = go (below-or-from (p / runLength s) (s .r))
   where
     go : (p / runLength s < s .r) ⊎ (s .r ≤ p / runLength s) → wanted s es xs p j < 256

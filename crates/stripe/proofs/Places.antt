@@ -2,37 +2,33 @@
 -- codewords by their bytes.
 use mathlib.Core.Path.{_≡_, refl, sym, ap, ap₂, _∙_, subst}
 use mathlib.Core.Bool.{Bool, true, false, cond}
-use mathlib.Core.Logic.{_⊎_, inl, inr}
-use mathlib.Core.List.{List, [], _∷_, _++_}
+use mathlib.Core.List.{List, _∷_, _++_}
 use Prim.Native.Nat.{ℕ, zero, suc, _+_, _*_, _/_, _%_, _<_, _≤_}
 use native.Mathlib.Nat.{le-of-suc-le-suc, not-suc-le-zero, mod-lt, mod-eq-of-lt, div-eq-of-lt, div-lt-iff-lt-mul, div-add-mod', mul-add-div-right, mul-add-mod-self-right, mul-le-mul-right, add-zero as ℕ-add-zero, mul-zero as ℕ-mul-zero}
 use native.Mathlib.Omega.{arith}
 use lib.Dec.{ltb, lit<}
 use lib.ListN.{length, getD, take, length-drop, length-append, take-append-drop}
 use lib.Seq.{ext-getD, getD-take, getD-drop, length-take-le, take-at, drop-at}
-use borrow.Author.Tests.{lt-ltb, le-ltb, ltb-true, ltb-false}
+use borrow.Author.Tests.{lt-ltb, le-ltb}
 use Rattle.field.specs.Field.{_⊕_}
 use Rattle.field.specs.Bytes.{Bytes, _⊞_}
 use Rattle.field.specs.Row.{row}
 use Rattle.field.proofs.Xor.{add-lt, add-zero}
-use Rattle.field.proofs.Bytes.{tabulate-length, tabulate-at, tabulate-bytes, add-at}
+use Rattle.field.proofs.Bytes.{tabulate-length, tabulate-at, tabulate-bytes, add-at, append-bytes}
 use Rattle.field.proofs.Rows.{row-lt}
 use Rattle.stripe.specs.declared.Shape.{Shape}
-use Rattle.stripe.specs.Shape.{columns, dataLength, parityLength, stripeLength}
+use Rattle.stripe.specs.Shape.{dataLength, parityLength, stripeLength}
 use Rattle.stripe.specs.Stripe.{across, rowAt, runs, runLength, piggyback, parityByte, parity, dataOf, parityOf, Codeword}
 use Rattle.stripe.proofs.Allowed.{Allowed, plain-run-length}
-
-pub below-or-from : (m n : ℕ) → (m < n) ⊎ (n ≤ m)
-below-or-from m n = go (ltb m n) refl
-  where
-    go : (b : Bool) → ltb m n ≡ b → (m < n) ⊎ (n ≤ m)
-    go true e = inl (ltb-true m n e)
-    go false e = inr (ltb-false m n e)
 
 -- ---- the numbers of places
 
 pub place-lt : {c n p l : ℕ} → c < n → p < l → c * l + p < n * l
 place-lt {c} {n} {p} {l} h k = omega (arith, mul-le-mul-right l h)
+
+-- a column ends within the columns
+pub column-inside : (c n l : ℕ) → c < n → c * l + l ≤ n * l
+column-inside c n l h = omega (arith, mul-le-mul-right l h)
 
 pub place-column : (c : ℕ) {p l : ℕ} → p < l → (c * l + p) / l ≡ c
 place-column c {p} h = mul-add-div-right (omega arith) c p ∙ ap (λ (x : ℕ). c + x) (div-eq-of-lt h) ∙ ℕ-add-zero c
@@ -206,11 +202,6 @@ checks-codeword s xs b e h =
     }
 
 -- ---- data followed by their parity
-
-append-bytes : (xs ys : List ℕ) → Bytes xs → Bytes ys → Bytes (xs ++ ys)
-append-bytes [] ys hx hy i = hy i
-append-bytes (x ∷ xs) ys hx hy zero = hx 0
-append-bytes (x ∷ xs) ys hx hy (suc i) = append-bytes xs ys (λ n. hx (suc n)) hy i
 
 pub encoded-data : (s : Shape) (ds ps : List ℕ) → length ds ≡ dataLength s → dataOf s (ds ++ ps) ≡ ds
 encoded-data s ds ps e = take-at ds ps (dataLength s) e

@@ -1,8 +1,7 @@
 -- One byte place of a stripe: k data bytes and r rows, some of them lost. The lost data bytes are solved for by surviving rows, which
 -- gives the only word that can agree with all survivors; with r lost there is always one.
-use mathlib.Core.Path.{_≡_, refl, sym, _∙_, subst}
+use mathlib.Core.Path.{_≡_, sym, _∙_, subst}
 use mathlib.Core.Bool.{false}
-use mathlib.Core.Logic.{_↔_}
 use mathlib.Core.List.{List}
 use Prim.Native.Nat.{ℕ, _+_, _*_, _<_, _≤_}
 use native.Mathlib.Omega.{arith}
@@ -13,7 +12,7 @@ use Rattle.field.specs.Row.{row}
 use Rattle.stripe.specs.Stripe.{among, Ascending}
 use Rattle.stripe.proofs.Survivors.{Spread, firstRow, rowStep, survivors}
 use Rattle.stripe.proofs.Lost.{lostData, rowLost, lost-data-ascending, lost-data-among, lost-count}
-use Rattle.stripe.proofs.Errors.{AgreeOff, errorRow, syndrome, errors, added-back, taken-off, mended-own, mended-row-any, mended, mended-length, mended-bytes, mended-agrees, mended-row, only-mended}
+use Rattle.stripe.proofs.Errors.{AgreeOff, errorRow, errors, mended-own, mended-row-any, mended, mended-length, mended-bytes, mended-agrees, mended-row, only-mended}
 
 -- the rows that survive have the values wanted
 abbrev pub SurvivingRows : ℕ → ℕ → List ℕ → (ℕ → ℕ) → List ℕ → Type 0
@@ -63,11 +62,6 @@ module _ (k r : ℕ) (es : List ℕ) (k-most : k ≤ 255) (r-most : r ≤ 3) (as
     word-mended-row j =
         mended-row-any _ _ k (lostData k es) (word-spread .step-some) (word-spread .step-most) k-most lost-ascending ms long t j
 
-    -- a row has the value wanted exactly when the errors make up what it lacks
-    pub word-row-exactly : (j : ℕ) → (row j (wordMended k es ms t) ≡ t j) ↔ (errorRow j (lostData k es) (wordErrors k es ms t) ≡ syndrome ms t j)
-    word-row-exactly j =
-        (λ e. taken-off (row j ms) _ (t j) (sym e ∙ word-mended-row j), λ e. word-mended-row j ∙ added-back (row j ms) (t j) _ e)
-
     -- a word that agrees with all survivors is the mended one
     pub word-only : (ns : List ℕ) → length ns ≡ k → Bytes ms → Bytes ns → AgreeOff k es ms ns → SurvivingRows k r es t ns → ns ≡ wordMended k es ms t
     unfolding wordMended
@@ -75,14 +69,6 @@ module _ (k r : ℕ) (es : List ℕ) (k-most : k ≤ 255) (r-most : r ≤ 3) (as
         only-mended _ _ k (lostData k es) (word-spread .step-some) (word-spread .step-most) k-most lost-ascending ms long t ns hn bm bn
         (λ c l m. ag c l (sym (lost-data-among k c es l) ∙ m))
         (λ u l. rows _ (word-spread .survive u l .0) (word-spread .survive u l .1))
-
-    -- so there is one exactly when the mended word has the values wanted in all rows that survive
-    pub word-exactly : Bytes ms
-        → ((ns : List ℕ) × ((length ns ≡ k) × (Bytes ns × (AgreeOff k es ms ns × SurvivingRows k r es t ns)))) ↔ SurvivingRows k r es t (wordMended k es ms t)
-    word-exactly b = (
-      λ w. subst (SurvivingRows k r es t) (word-only (w .0) (w .1 .0) b (w .1 .1 .0) (w .1 .1 .1 .0) (w .1 .1 .1 .1)) (w .1 .1 .1 .1),
-      λ rows. (wordMended k es ms t, (word-mended-length k es ms t ∙ long, (word-mended-bytes b, (word-mended-agrees, rows)))),
-    )
 
     -- with r lost it has them always: all surviving rows are solved by
     pub word-completed : length es ≡ r → ((j : ℕ) → t j < 256) → SurvivingRows k r es t (wordMended k es ms t)
@@ -92,10 +78,3 @@ module _ (k r : ℕ) (es : List ℕ) (k-most : k ≤ 255) (r-most : r ≤ 3) (as
         word-spread .exhaust (sym (lost-count k r 0 es asc) ∙ full) j l m in
         subst (λ (i : ℕ). row i (wordMended k es ms t) ≡ t i) (sym (found .1 .1))
         (mended-row _ _ k (lostData k es) (word-spread .step-some) (word-spread .step-most) k-most lost-ascending ms long t ht (found .0) (found .1 .0))
-
-  -- two words that agree at the data bytes and the rows that survive are one
-  pub word-determined : (ms ns : List ℕ) → length ms ≡ k → length ns ≡ k → Bytes ms → Bytes ns → AgreeOff k es ms ns
-      → ((j : ℕ) → j < r → among (k + j) es ≡ false → row j ms ≡ row j ns) → ms ≡ ns
-  word-determined ms ns hm hn bm bn ag rows =
-      word-only ms hm (λ j. row j ms) ms hm bm bm (λ c l m. refl) (λ j l m. refl)
-      ∙ sym (word-only ms hm (λ j. row j ms) ns hn bm bn ag (λ j l m. sym (rows j l m)))

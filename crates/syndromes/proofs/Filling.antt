@@ -3,7 +3,7 @@
 use mathlib.Core.Path.{_≡_, refl, sym, ap, ap₂, _∙_, subst}
 use mathlib.Core.List.{List, map}
 use mathlib.Core.Logic.{_⊎_, inl, inr, ⊎-elim}
-use Prim.Native.Nat.{ℕ, zero, suc, _+_, _-_, _*_, _<_, _≤_}
+use Prim.Native.Nat.{ℕ, _+_, _-_, _*_, _<_, _≤_}
 use native.Mathlib.Nat.{mul-le-mul-right, add-mul as ℕ-add-mul}
 use native.Mathlib.Omega.{arith}
 use lib.ListN.{length, getD, take, drop, length-drop, length-map}
@@ -11,18 +11,20 @@ use lib.Seq.{take-all}
 use borrow.Rule.Slice.PartMut.{putMid}
 use Rattle.field.specs.Field.{_⊕_, _⊗_, gpow, inverseOf}
 use Rattle.field.specs.Bytes.{Bytes}
-use Rattle.field.proofs.Xor.{add-comm, add-zero}
-use Rattle.field.proofs.Mul.{mul-assoc, one-mul, mul-inverse, gpow-zero, gpow-pos, gpow-lt}
+use Rattle.field.proofs.Xor.{add-comm}
+use Rattle.field.proofs.Mul.{one-mul, gpow-zero, gpow-pos, gpow-lt}
+use Rattle.field.proofs.Solve.{undo}
+use Rattle.field.proofs.Cases.{below-or-from}
 use Rattle.lanes.specs.Lanes.{onto}
 use Rattle.lanes.proofs.Onto.{onto-at, onto-length}
-use Rattle.lanes.proofs.Within.{map-at}
+use Rattle.lanes.proofs.Onto.{map-at}
 use Rattle.lanes.proofs.Parts.{part-length, part-at, back-length, back-inside, back-outside}
 use Rattle.stripe.specs.declared.Shape.{Shape}
 use Rattle.stripe.specs.Shape.{shapeRefusal, dataLength, parityLength, stripeLength}
 use Rattle.stripe.specs.Stripe.{parityByte, parity, dataOf, parityOf}
 use Rattle.stripe.proofs.Allowed.{allowed}
 use Rattle.stripe.proofs.Lent.{lent-both}
-use Rattle.stripe.proofs.Places.{below-or-from, place-lt, parity-at, parity-length, plain-parity, row-at-stripe, parity-of-at, parity-of-length, data-of-length}
+use Rattle.stripe.proofs.Places.{place-lt, parity-at, parity-length, plain-parity, row-at-stripe, parity-of-at, parity-of-length, data-of-length}
 use Rattle.coding.specs.Encode.{encoded}
 use Rattle.coding.proofs.Encoded.{encoded-done}
 use Rattle.syndromes.specs.Apart.{Apart, Parted}
@@ -119,9 +121,6 @@ divide-start l r x ys b = record { long = refl; done = done; left = λ j y h k. 
         ap (λ (i : ℕ). gpow (i * x) ⊗ getD ys (j * l + y) 0) first ∙ ap (λ (w : ℕ). gpow w ⊗ getD ys (j * l + y) 0) none
         ∙ weight-one 0 _ (b (j * l + y))
 
-over : (w z : ℕ) → 0 < w → w < 256 → z < 256 → w ⊗ (inverseOf w ⊗ z) ≡ z
-over w z p h k = sym (mul-assoc w (inverseOf w) z) ∙ ap (λ (y : ℕ). y ⊗ z) (mul-inverse w p h) ∙ one-mul z k
-
 module _ (l r x j c : ℕ) (ys zs ws : List ℕ) (h : DividedTo l r x j ys zs) (bytes : Bytes zs) (fits : j * l + l ≤ length zs)
     (weight : c ≡ inverseOf (gpow (j * x)))
     (is : ws ≡ map (λ (x : ℕ). c ⊗ x) (take (j * l + l - j * l) (drop (j * l) zs))) where
@@ -148,7 +147,7 @@ module _ (l r x j c : ℕ) (ys zs ws : List ℕ) (h : DividedTo l r x j ys zs) (
               subst (λ (m : ℕ). gpow (m * x) ⊗ getD (putMid (j * l) (j * l + l - j * l) zs ws) (m * l + y) 0 ≡ getD ys (m * l + y) 0)
               (omega (arith, less, e))
               (ap (λ (z : ℕ). gpow (j * x) ⊗ z) (back-inside zs ws (j * l) l ws-long fits y k ∙ ws-at y k ∙ ap (λ (w : ℕ). w ⊗ getD zs (j * l + y) 0) weight)
-              ∙ over (gpow (j * x)) (getD zs (j * l + y) 0) (gpow-pos (j * x)) (gpow-lt (j * x)) (bytes (j * l + y))
+              ∙ undo (gpow (j * x)) (getD zs (j * l + y) 0) (gpow-pos (j * x)) (gpow-lt (j * x)) (bytes (j * l + y))
               ∙ h .left j y (omega arith) k)
 
       left : (i y : ℕ) → j + 1 ≤ i → y < l → getD (putMid (j * l) (j * l + l - j * l) zs ws) (i * l + y) 0 ≡ getD ys (i * l + y) 0

@@ -1,14 +1,14 @@
 -- Whether a stripe and a buffer are lent as they should be, and column x may be set apart: each test decides one field of `Lent`.
-use mathlib.Core.Path.{_≡_, refl, sym, _∙_}
-use mathlib.Core.Bool.{Bool, true, false, true≢false}
+use mathlib.Core.Path.{_≡_, sym, _∙_}
+use mathlib.Core.Bool.{true, false, true≢false}
 use mathlib.Core.Logic.{_⊎_, inl, inr}
 use Prim.Native.Nat.{ℕ, _<_, _≤_}
 use native.Mathlib.Omega.{arith}
-use lib.Dec.{eqb, ltb}
-use borrow.Author.Tests.{eqb-true, eqb-false, ltb-true, lt-ltb}
+use lib.Dec.{ltb}
+use borrow.Author.Tests.{ltb-true, lt-ltb}
+use Rattle.field.proofs.Cases.{below-or-from, same-or-not}
 use Rattle.stripe.specs.declared.Shape.{Shape}
 use Rattle.stripe.specs.Shape.{shapeRefusal, parityLength, stripeLength}
-use Rattle.stripe.proofs.Places.{below-or-from}
 use Rattle.syndromes.specs.Syndromes.{Lent, Says}
 
 pub says-yes : (P : Type 0) → P → Says true P
@@ -43,13 +43,6 @@ module _ (s : Shape) (x d p : ℕ) (later : x ≡ 0 → ⊥) where
       go : ltb x (s .k) ≡ false → (x ≡ 0) ⊎ ((s .t ≡ 0) × (x < s .k)) → ⊥
       go e (inl z) = later z
       go e (inr z) = true≢false (sym (lt-ltb x (s .k) (z .1)) ∙ e)
-
-same-or-not : (m n : ℕ) → (m ≡ n) ⊎ (m ≡ n → ⊥)
-same-or-not m n = go (eqb m n) refl
-  where
-    go : (b : Bool) → eqb m n ≡ b → (m ≡ n) ⊎ (m ≡ n → ⊥)
-    go true e = inl (eqb-true m n e)
-    go false e = inr (eqb-false m n e)
 
 pub lent-or-not : (s : Shape) (x d p : ℕ) → Lent s x d p ⊎ (Lent s x d p → ⊥)
 lent-or-not s x d p = shape (same-or-not (shapeRefusal s) 0)

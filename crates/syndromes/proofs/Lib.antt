@@ -1,4 +1,5 @@
 pub mod Upwards
+pub mod Halves
 pub mod Judged
 pub mod Filling
 pub mod Unique

@@ -1,7 +1,7 @@
 -- Horner's rule upwards: a byte that, times g^(j*i), is the parity and row j of the i first columns gets the next column added and is
 -- divided by g^j. With the row of the columns from x on that makes what the row lacks, over the weight of column x.
 use mathlib.Core.Path.{_≡_, refl, sym, ap, ap₂, _∙_, subst}
-use mathlib.Core.List.{List, [], _∷_, _++_}
+use mathlib.Core.List.{List, _∷_, _++_}
 use mathlib.Core.Logic.{_⊎_, inl, inr, ⊎-elim}
 use Prim.Native.Nat.{ℕ, zero, suc, _+_, _*_, _-_, _<_, _≤_}
 use native.Mathlib.Nat.{mul-le-mul-right, suc-mul, add-mul as ℕ-add-mul, not-suc-le-zero, le-of-suc-le-suc, mul-comm as ℕ-mul-comm}
@@ -15,8 +15,9 @@ use Rattle.field.specs.Field.{_⊕_, _⊗_, gpow, power, shifted, doubled}
 use Rattle.field.specs.Bytes.{Bytes}
 use Rattle.field.specs.Row.{row}
 use Rattle.field.proofs.Xor.{add-zero, add-assoc, sums}
-use Rattle.field.proofs.Mul.{mul-add, mul-assoc, mul-one, one-mul, mul-zero, gpow-zero, gpow-add, gpow-lt}
-use Rattle.field.proofs.Rows.{row-nil, row-cons, row-parts}
+use Rattle.field.proofs.Mul.{mul-add, mul-assoc, mul-one, one-mul, gpow-zero, gpow-add, gpow-lt}
+use Rattle.field.proofs.Rows.{row-nil, row-parts, row-one}
+use Rattle.field.proofs.Cases.{below-or-from}
 use Rattle.lanes.specs.Lanes.{onto}
 use Rattle.lanes.proofs.Onto.{onto-at, onto-length}
 use Rattle.lanes.proofs.Parts.{part-length, part-at, back-length, back-inside, back-outside}
@@ -26,7 +27,7 @@ use Rattle.stripe.specs.Stripe.{across, rowAt, parity}
 use Rattle.stripe.specs.Column.{lentRefusal}
 use Rattle.stripe.proofs.Allowed.{allowed}
 use Rattle.stripe.proofs.Lent.{lent-both}
-use Rattle.stripe.proofs.Places.{below-or-from, across-length, across-take, parity-at, parity-length, plain-parity}
+use Rattle.stripe.proofs.Places.{across-length, across-take, parity-at, parity-length, plain-parity}
 use Rattle.coding.specs.Encode.{encoded}
 use Rattle.coding.proofs.Encoded.{encoded-done}
 use Rattle.syndromes.specs.Apart.{Apart, Parted, Places, BelowIn, Plus, RowTo, RowsTo}
@@ -54,10 +55,6 @@ row-all xs l p j x k h =
     ∙ row-parts j (across xs l p 0 x) (across xs l p (0 + x * l) (k - x))
     ∙ ap₂ (λ (e o : ℕ). row j (across xs l p 0 x) ⊕ gpow e ⊗ row j (across xs l p o (k - x)))
     (ap (λ (n : ℕ). n * j) (across-length xs l p 0 x) ∙ ℕ-mul-comm x j) (omega arith)
-
-row-one : (j m : ℕ) → m < 256 → row j (m ∷ []) ≡ m
-row-one j m h =
-    row-cons j m [] h ∙ ap (λ (z : ℕ). m ⊕ gpow j ⊗ z) (row-nil j) ∙ ap (λ (z : ℕ). m ⊕ z) (mul-zero (gpow j)) ∙ add-zero m
 
 -- row j of one column more
 row-after : (xs : List ℕ) (l p j i : ℕ) → Bytes xs
@@ -116,16 +113,6 @@ column-within xs k l r x from i o h some less e =
 pub record Risen (xs : List ℕ) (k l from n w j i : ℕ) (a : List ℕ) : Type 0 where
   pub long : length a ≡ w
   pub at : BelowIn xs k l i from n j a
-
--- what `copy` of a part leaves
-pub copied : (xs a b : List ℕ) (at n w : ℕ) → at + n ≤ length xs → n ≤ w → length b ≡ w
-    → a ≡ onto (λ (x y : ℕ). y) b (take (at + n - at) (drop at xs)) → (length a ≡ w) × ((q : ℕ) → q < n → getD a q 0 ≡ getD xs (at + q) 0)
-copied xs a b at n w fits few long is =
-    let part : List ℕ = take (at + n - at) (drop at xs) in (
-      ap length is ∙ onto-length (λ (x y : ℕ). y) b part ∙ long,
-      λ q h. ap (λ (l : List ℕ). getD l q 0) is
-          ∙ onto-at (λ (x y : ℕ). y) b part q (omega arith) (omega (arith, part-length xs at n fits)) ∙ part-at xs at n q h,
-    )
 
 pub start : (xs : List ℕ) (k l from n w j at : ℕ) (a : List ℕ) → Bytes xs → at ≡ (k + j) * l + from → length a ≡ w
     → ((q : ℕ) → q < n → getD a q 0 ≡ getD xs (at + q) 0) → Risen xs k l from n w j 0 a

@@ -1,13 +1,13 @@
 // What the rows lack, with one column x set apart: each row over the weight that column x has in it. So no product is needed.
 // The columns from x on are an encoding of their own; the parity and the columns before x come by Horner's rule upwards, the rows
-// of a block of 64 places together, by halves and quarters. Two rows and three have functions of their own, and a block has the literal
-// length 64: so the compiler keeps it in registers. The first block of a column adds only as many places as
+// of a block of 64 places together, by the halves and quarters of `downwards`. Two rows and three have functions of their own, and a
+// block has the literal length 64: so the compiler keeps it in registers. The first block of a column adds only as many places as
 // leave whole blocks.
+use crate::downwards::halve_add;
+use crate::downwards::quarter_add;
 use coding::encode::encode;
 use lanes::add;
 use lanes::copy;
-use steps::halve_add;
-use steps::quarter_add;
 use stripe::Shape;
 ghost use mathlib.Core.Path.{_≡_};
 ghost use Prim.Native.Nat.{ℕ, _+_, _*_, _≤_, _<_};

@@ -4,7 +4,7 @@ use mathlib.Core.Path.{_≡_, sym, ap, ap₂, _∙_}
 use mathlib.Core.Bool.{Bool, true, false, cond}
 use mathlib.Core.List.{List, [], _∷_, _++_, append-assoc, append-nil}
 use native.Mathlib.Omega.{arith}
-use native.Mathlib.Nat.{suc-mul, mul-add, mul-left-comm, mul-le-mul-right}
+use native.Mathlib.Nat.{suc-mul, mul-add, mul-left-comm}
 use native.Mathlib.Numerals.{add-one}
 use lib.Dec.{ltb}
 use lib.ListN.{length, take, drop, length-append, length-take}
@@ -47,10 +47,6 @@ lines-grow l es m zero xs = let e : m + 0 ≡ m = omega arith in omega (arith, a
 lines-grow l es m (suc d) xs =
     let e : m + suc d ≡ suc (m + d) = omega arith in
     omega (arith, lines-grow l es m d xs, lines-length l es (m + d) xs, ap (λ (k : ℕ). length (columnLines l es 0 k xs)) e)
-
--- a column lies inside the stripe
-pub column-inside : (c n l : ℕ) → c < n → c * l + l ≤ n * l
-column-inside c n l h = omega (arith, suc-mul c l, mul-le-mul-right l h)
 
 -- the line of the column that starts at `from`
 pub line-from : (l : ℕ) (es : List ℕ) (c from : ℕ) (xs : List ℕ) (b : Bool) → b ≡ among c es → from ≡ c * l

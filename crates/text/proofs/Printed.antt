@@ -1,10 +1,9 @@
 -- What is printed: the text where it can be printed, and then it fits; else nothing.
 use Prim.Native.Nat.{ℕ, _+_, _≤_, _<_}
-use mathlib.Core.Path.{_≡_, refl, sym, ap, _∙_}
-use mathlib.Core.Bool.{Bool, true, false, cond, _&&_}
+use mathlib.Core.Path.{_≡_, sym, ap, _∙_}
+use mathlib.Core.Bool.{Bool, true, false, cond, _&&_, and-eq-true-iff}
 use mathlib.Core.List.{List, []}
 use native.Mathlib.Omega.{arith}
-use native.Mathlib.Nat.{suc-ne-zero}
 use borrow.Author.Tests.{eqb-true, leb-true, le-leb, lt-leb}
 use lib.Dec.{eqb, leb}
 use lib.ListN.{length}
@@ -23,13 +22,6 @@ none-put out text e = (ap length (sym e), over-none out 0 ∙ ap (over out 0) (s
 pub text-put : (out out′ text t : List ℕ) (v : ℕ) → text ≡ t → Put out 0 t out′ v → (v ≡ length text) × (out′ ≡ over out 0 text)
 text-put out out′ text t v e p = (omega (arith, p .0, ap length e), p .1 ∙ ap (over out 0) (sym e))
 
-true-not-false : true ≡ false → ⊥
-true-not-false e = suc-ne-zero 0 (ap (λ (b : Bool). cond b 1 0) e)
-
-and-both : (a b : Bool) → a && b ≡ true → (a ≡ true) × (b ≡ true)
-and-both true b e = (refl, e)
-and-both false b e = absurd (true-not-false (sym e))
-
 -- what a printable stripe says
 pub record Printable (s : Shape) (n room : ℕ) : Type 0 where
   pub shaped : shapeRefusal s ≡ 0
@@ -40,9 +32,9 @@ pub record Printable (s : Shape) (n room : ℕ) : Type 0 where
 pub printable-says : (s : Shape) (n room : ℕ) → printable s n room ≡ true → Printable s n room
 unfolding printable
 printable-says s n room e =
-    let p = and-both (eqb (shapeRefusal s) 0 && eqb n (stripeLength s) && leb n 65536) (leb 140000 room) e in
-    let q = and-both (eqb (shapeRefusal s) 0 && eqb n (stripeLength s)) (leb n 65536) (p .0) in
-    let r = and-both (eqb (shapeRefusal s) 0) (eqb n (stripeLength s)) (q .0) in
+    let p = and-eq-true-iff (eqb (shapeRefusal s) 0 && eqb n (stripeLength s) && leb n 65536) (leb 140000 room) .0 e in
+    let q = and-eq-true-iff (eqb (shapeRefusal s) 0 && eqb n (stripeLength s)) (leb n 65536) .0 (p .0) in
+    let r = and-eq-true-iff (eqb (shapeRefusal s) 0) (eqb n (stripeLength s)) .0 (q .0) in
     record { shaped = eqb-true _ _ (r .0); whole = eqb-true _ _ (r .1); small = leb-true _ _ (q .1); wide = leb-true _ _ (p .1) }
 
 module _ (s : Shape) (es xs : List ℕ) (room : ℕ) where

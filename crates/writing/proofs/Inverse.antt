@@ -14,14 +14,15 @@ use Rattle.stripe.specs.Stripe.{among, Ascending, Agree}
 use Rattle.stripe.proofs.Allowed.{Allowed}
 use Rattle.number.specs.declared.Number.{Number}
 use Rattle.number.specs.declared.Number.the-variants.{Value}
-use Rattle.number.specs.Number.{numberAt, numberRefusal, written}
-use Rattle.record.specs.Layout.{positions, survivors, kept, restored, recordOf, LaidOut}
-use Rattle.record.specs.Reading.{valueOf, nextOf, firstNumber, secondNumber, thirdNumber, fourthNumber, countNumber, shapeOf, countOf, lostOf, columnsStart, stripeRefusal, headRefusal, positionsRefusal, positionsAt, afterPositions, contentRefusal, columnsFilled}
+use Rattle.number.specs.Number.{numberAt, numberRefusal, written, valueOf, nextOf}
+use Rattle.writing.specs.Writing.{LaidOut}
+use Rattle.record.specs.Layout.{positions, survivors, kept, restored, recordOf}
+use Rattle.record.specs.Reading.{firstNumber, secondNumber, thirdNumber, fourthNumber, countNumber, shapeOf, countOf, lostOf, columnsStart, stripeRefusal, headRefusal, positionsRefusal, positionsAt, afterPositions, contentRefusal, columnsFilled}
 use Rattle.number.proofs.Written.{read-written}
 use Rattle.record.proofs.Survivors.{restored-lost, restored-kept, survivors-lost, survivors-kept}
 use Rattle.record.proofs.Refusals.{described, position-lawful, skip, only, shape-is, head-lawful, rest-columns, columns-exact, content-rest, stripe-lawful, stripe-shaped, head-described}
 use Rattle.record.proofs.Accepted.{accepted}
-use Rattle.record.proofs.Exactly.{accepts-only, columns-enough}
+use Rattle.record.proofs.Exactly.{accepts-only, columns-enough, joined}
 use Rattle.writing.proofs.Putting.{mark-small, few-lost, survivors-bytes, head-is, record-is}
 
 -- ---- numbers one after the other
@@ -68,9 +69,6 @@ positions-read s n least at (x ∷ es) q b h e =
 
 -- ---- the whole record
 
-joined : (a b c d e f rest : List ℕ) → (a ++ (b ++ (c ++ (d ++ (e ++ f))))) ++ rest ≡ a ++ (b ++ (c ++ (d ++ (e ++ (f ++ rest)))))
-joined a b c d e f rest = simp append-assoc
-
 module _ (sh : Shape) (es xs : List ℕ) (lawful : stripeRefusal sh ≡ 0) (ascending : Ascending 0 (columns sh) es) (exact : length xs ≡ stripeLength sh) where
   abbrev s : List ℕ
   s = recordOf sh es xs
@@ -87,7 +85,7 @@ module _ (sh : Shape) (es xs : List ℕ) (lawful : stripeRefusal sh ≡ 0) (asce
   split : s ≡ written (sh .k) ++ (written (sh .r) ++ (written (sh .t) ++ (written (sh .l) ++ (written (length es) ++ (positions es ++ columns-left)))))
   split =
       sym (record-is sh es xs) ∙ ap (λ (ys : List ℕ). ys ++ columns-left) (sym (head-is sh es))
-      ∙ joined (written (sh .k)) (written (sh .r)) (written (sh .t)) (written (sh .l)) (written (length es)) (positions es) columns-left
+      ∙ sym (joined (written (sh .k)) (written (sh .r)) (written (sh .t)) (written (sh .l)) (written (length es)) (positions es) columns-left)
 
   one : Next s 0 (sh .k) (written (sh .r) ++ (written (sh .t) ++ (written (sh .l) ++ (written (length es) ++ (positions es ++ columns-left)))))
   one = number-next s _ 0 (sh .k) (omega (arith, good .data-most)) split
@@ -227,7 +225,7 @@ left-over l k ys false h =
     (omega (arith, length-drop l ys, suc-mul k l), λ z. omega (arith, suc-mul k l))
 
 -- a buffer keeps its length
-restored-length : (l c m : ℕ) (es ys xs : List ℕ) → m * l ≤ length xs → kept es c m * l ≤ length ys → length (restored l es c m ys xs) ≡ length xs
+pub restored-length : (l c m : ℕ) (es ys xs : List ℕ) → m * l ≤ length xs → kept es c m * l ≤ length ys → length (restored l es c m ys xs) ≡ length xs
 unfolding restored kept
 restored-length l c zero es ys xs hx hy = refl
 restored-length l c (suc m) es ys xs hx hy =

@@ -1,7 +1,7 @@
 -- Writing a record: its length, its positions one at a time, and its refusals in their order.
 use Prim.Native.Nat.{ℕ, zero, suc, _+_, _-_, _*_, _≤_, _<_}
 use mathlib.Core.Path.{_≡_, refl, sym, ap, ap₂, _∙_}
-use mathlib.Core.Bool.{Bool, true, false, cond, _&&_}
+use mathlib.Core.Bool.{Bool, true, false, cond, _&&_, and-eq-true-iff}
 use mathlib.Core.List.{List, [], _∷_, _++_}
 use mathlib.Core.Logic.{⊎-elim}
 use native.Mathlib.Nat.{suc-mul, add-mul, zero-add}
@@ -24,7 +24,7 @@ use Rattle.number.proofs.Written.{drop-next, groups-most}
 use Rattle.number.proofs.Placed.{all-placed}
 use Rattle.record.proofs.Survivors.{survivors-lost, survivors-kept}
 use Rattle.record.proofs.Refusals.{stop, skip, end, passed, failed, first-zero, described}
-use Rattle.record.proofs.Accepted.{kept-lost, unless-zero, and-both}
+use Rattle.record.proofs.Accepted.{kept-lost, unless-zero}
 use Rattle.writing.proofs.Surviving.{sets-append}
 
 -- ---- positions in order
@@ -51,8 +51,8 @@ pub ascends-ascending : (a n : ℕ) (es : List ℕ) → ascends a n es ≡ true 
 unfolding ascends Ascending
 ascends-ascending a n [] e = tt
 ascends-ascending a n (x ∷ es) e =
-    let p = and-both (leb a x && ltb x n) _ e in
-    let q = and-both (leb a x) _ (p .0) in
+    let p = and-eq-true-iff (leb a x && ltb x n) _ .0 e in
+    let q = and-eq-true-iff (leb a x) _ .0 (p .0) in
     (leb-true a x (q .0), ltb-true x n (q .1), ascends-ascending (suc x) n es (p .1))
 
 pub ascending-ascends : (a n : ℕ) (es : List ℕ) → Ascending a n es → ascends a n es ≡ true

@@ -1,11 +1,13 @@
 -- Writing a record (document 01, 'Stripe records' and 'Refusal numbers').
-use Prim.Native.Nat.{ℕ, suc}
+use Prim.Native.Nat.{ℕ, suc, _≤_}
+use mathlib.Core.Path.{_≡_}
 use mathlib.Core.Bool.{Bool, true, cond, _&&_}
 use mathlib.Core.List.{List, [], _∷_}
 use lib.Dec.{leb, ltb, eqb}
 use lib.ListN.{length}
 use Rattle.stripe.specs.declared.Shape.{Shape}
-use Rattle.stripe.specs.Shape.{columns, stripeLength}
+use Rattle.stripe.specs.Shape.{shapeRefusal, columns, stripeLength}
+use Rattle.stripe.specs.Stripe.{Ascending}
 use Rattle.writing.specs.declared.Written.{Written}
 use Rattle.number.specs.Number.{placed}
 use Rattle.record.specs.Layout.{recordOf}
@@ -35,3 +37,14 @@ writtenOf s xs es room =
 -- the lent buffer after writing: the record at its front
 abbrev pub outWritten : Shape → List ℕ → List ℕ → List ℕ → List ℕ
 outWritten s xs es out = cond (eqb (writeRefusal s xs es (length out)) 0) (placed out 0 (recordOf s es xs)) out
+
+-- the bytes of some record: an allowed shape, at most 65,536 bytes of stripe, lost positions ascending and below n
+pub record LaidOut (s : List ℕ) : Type 0 where
+  pub shape : Shape
+  pub lost : List ℕ
+  pub stripe : List ℕ
+  pub allowed : shapeRefusal shape ≡ 0
+  pub short : stripeLength shape ≤ 65536
+  pub ascending : Ascending 0 (columns shape) lost
+  pub exact : length stripe ≡ stripeLength shape
+  pub bytes : s ≡ recordOf shape lost stripe

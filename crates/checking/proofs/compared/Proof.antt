@@ -2,9 +2,9 @@
 use Prim.Native.Nat.{ℕ, _/_, _%_, _<_}
 use mathlib.Core.Path.{_≡_, sym, ap, _∙_}
 use borrow.Author.Needs.{needs}
-use Rattle.lanes.specs.Lanes.{agree, firstDifference}
 use Rattle.stripe.specs.declared.Shape.{Shape}
 use Rattle.stripe.specs.Column.{lentRefusal}
+use Rattle.checking.specs.Compare.{agree, firstDifference}
 use Rattle.checking.specs.declared.Wrong.the-variants.{At}
 use Rattle.stripe.proofs.Allowed.{allowed}
 use Rattle.stripe.proofs.Lent.{lent}

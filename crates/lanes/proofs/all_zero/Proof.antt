@@ -6,7 +6,7 @@ use lib.Dec.{eqb}
 use lib.ListN.{length, drop}
 use borrow.Author.Needs.{needs}
 use Rattle.lanes.specs.Lanes.{allZero}
-use Rattle.lanes.proofs.Compare.{zero-turn, zero-done}
+use Rattle.lanes.proofs.Zero.{zero-turn, zero-done}
 use Rattle.lanes.proofs.all_zero.Statement.{statement}
 use Rattle.lanes.proofs.all_zero.Tie as tie
 

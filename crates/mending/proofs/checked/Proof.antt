@@ -6,7 +6,7 @@ use native.Mathlib.Omega.{arith}
 use denote.Ref.{now}
 use lib.ListN.{take}
 use Rattle.stripe.specs.Shape.{dataLength}
-use Rattle.checking.specs.Check.{firstWrong}
+use Rattle.checking.specs.Check.{numberOf, firstWrong}
 use Rattle.mending.specs.Restore.{Restores}
 use Rattle.mending.proofs.Nothing.{data-long, rest, restores}
 use borrow.Author.Needs.{needs}
@@ -40,9 +40,9 @@ returns c =
     let b = c .before .before .before .before .before in
     let e = ap (λ (ps : List ℕ). firstWrong (b .args .s) (take (dataLength (b .args .s)) (now (b .args .stripe))) ps)
     (rest (b .args .s) (now (b .args .stripe)) (b .pre .1)) in
-    subst (λ (v : ℕ). Restores (b .args .s) [] (now (b .args .stripe)) v (now (b .args .stripe))) (sym (c .verdict .ensures))
-    (restores (b .args .s) (now (b .args .stripe)) (b .pre .1) (b .pre .0) (λ i. omega (arith, c .before .before .before .before .shared-slice-known .given i)) (c .before .first-wrong .result)
-    (sym (c .before .first-wrong .ensures ∙ e)))
+    subst (λ (v : ℕ). Restores (b .args .s) [] (now (b .args .stripe)) v (now (b .args .stripe)))
+    (sym (c .verdict .ensures ∙ ap numberOf (c .before .first-wrong .ensures ∙ e)))
+    (restores (b .args .s) (now (b .args .stripe)) (b .pre .1) (b .pre .0) (λ i. omega (arith, c .before .before .before .before .shared-slice-known .given i)))
 
 pub checked-spec : {M : Type 1} → statement M
 checked-spec =

@@ -1,18 +1,30 @@
--- `restore` meets its contract.
+-- `restore` meets its contract: of the scratch r rows are lent.
 use borrow.Author.Needs.{needs}
+use Prim.Native.Nat.{_*_, _≤_}
+use mathlib.Core.Path.{sym}
 use native.Mathlib.Omega.{arith}
+use lib.Seq.{length-take-le}
+use Rattle.stripe.specs.declared.Shape.{Shape}
+use Rattle.lost.specs.declared.Lost.{Lost}
+use Rattle.mending.specs.Restore.{Ready}
 use Rattle.stripe.proofs.Allowed.{allowed}
 use Rattle.mending.proofs.restore.Statement.{statement}
 use Rattle.mending.proofs.restore.Tie as tie
 
+fits : (s : Shape) {lost : Lost} → Ready s lost → s .r * s .l ≤ 12288
+fits s h = allowed s (h .shape) .parity-length
+
 mul-n : tie.Need-mul-n
-mul-n c = omega (arith, allowed (c .before .before .args .s) (c .before .before .pre .0 .shape) .parity-length)
+mul-n c = omega (arith, fits _ (c .before .before .pre .0))
 
-slice-aggregate-restore-in : tie.Need-slice-aggregate-restore-in
-slice-aggregate-restore-in c = search needs
+array-borrow-prefix-slots : tie.Need-array-borrow-prefix-slots
+array-borrow-prefix-slots c = c .before .if1 .taken
 
-restore-in-requires : tie.Need-restore-in-requires
-restore-in-requires c κs = (c .before .before .before .before .before .pre .0, (c .before .before .before .before .before .pre .1, c .before .before .if1 .taken))
+slice-aggregate-restore-rows : tie.Need-slice-aggregate-restore-rows
+slice-aggregate-restore-rows c = sym (length-take-le _ _ (c .before .before .if1 .taken))
+
+restore-rows-requires : tie.Need-restore-rows-requires
+restore-rows-requires c κs = let w = c .before .before .before .before .before .pre in (w .0, (w .1, length-take-le _ _ (c .before .before .if1 .taken)))
 
 same-length : tie.Need-same-length
 same-length c = search needs
@@ -20,11 +32,14 @@ same-length c = search needs
 returns : tie.Need-returns
 returns c = search needs
 
-slice-aggregate-restore-in-2 : tie.Need-slice-aggregate-restore-in-2
-slice-aggregate-restore-in-2 c = search needs
+array-borrow-prefix-slots-2 : tie.Need-array-borrow-prefix-slots-2
+array-borrow-prefix-slots-2 c = c .before .if2 .taken
 
-restore-in-requires-2 : tie.Need-restore-in-requires-2
-restore-in-requires-2 c κs = (c .before .before .before .before .before .before .pre .0, (c .before .before .before .before .before .before .pre .1, c .before .before .if2 .taken))
+slice-aggregate-restore-rows-2 : tie.Need-slice-aggregate-restore-rows-2
+slice-aggregate-restore-rows-2 c = sym (length-take-le _ _ (c .before .before .if2 .taken))
+
+restore-rows-requires-2 : tie.Need-restore-rows-requires-2
+restore-rows-requires-2 c κs = let w = c .before .before .before .before .before .before .pre in (w .0, (w .1, length-take-le _ _ (c .before .before .if2 .taken)))
 
 same-length-2 : tie.Need-same-length-2
 same-length-2 c = search needs
@@ -32,14 +47,14 @@ same-length-2 c = search needs
 returns-2 : tie.Need-returns-2
 returns-2 c = search needs
 
-slice-aggregate-restore-in-3 : tie.Need-slice-aggregate-restore-in-3
-slice-aggregate-restore-in-3 c = search needs
+array-borrow-prefix-slots-3 : tie.Need-array-borrow-prefix-slots-3
+array-borrow-prefix-slots-3 c = fits _ (c .before .before .before .before .before .pre .0)
 
-restore-in-requires-3 : tie.Need-restore-in-requires-3
-restore-in-requires-3 c κs =
-    let w = c .before .before .before .before .before .before .pre in
-    let a = c .before .before .before .before .before .before .args in
-    (w .0, (w .1, allowed (a .s) (w .0 .shape) .parity-length))
+slice-aggregate-restore-rows-3 : tie.Need-slice-aggregate-restore-rows-3
+slice-aggregate-restore-rows-3 c = sym (length-take-le _ _ (fits _ (c .before .before .before .before .before .before .pre .0)))
+
+restore-rows-requires-3 : tie.Need-restore-rows-requires-3
+restore-rows-requires-3 c κs = let w = c .before .before .before .before .before .before .pre in (w .0, (w .1, length-take-le _ _ (fits _ (w .0))))
 
 same-length-3 : tie.Need-same-length-3
 same-length-3 c = search needs
@@ -52,15 +67,18 @@ restore-spec =
     tie.close
     (tie.spec
     mul-n
-    slice-aggregate-restore-in
-    restore-in-requires
+    array-borrow-prefix-slots
+    slice-aggregate-restore-rows
+    restore-rows-requires
     same-length
     returns
-    slice-aggregate-restore-in-2
-    restore-in-requires-2
+    array-borrow-prefix-slots-2
+    slice-aggregate-restore-rows-2
+    restore-rows-requires-2
     same-length-2
     returns-2
-    slice-aggregate-restore-in-3
-    restore-in-requires-3
+    array-borrow-prefix-slots-3
+    slice-aggregate-restore-rows-3
+    restore-rows-requires-3
     same-length-3
     returns-3)

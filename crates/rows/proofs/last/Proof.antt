@@ -1,7 +1,7 @@
 -- `last` meets its contract: the block is a copy of the part.
 use native.Mathlib.Omega.{arith}
 use borrow.Author.Needs.{needs}
-use Rattle.rows.proofs.Horner.{copied}
+use Rattle.lanes.proofs.Parts.{copied}
 use Rattle.rows.proofs.last.Statement.{statement}
 use Rattle.rows.proofs.last.Tie as tie
 

@@ -1,6 +1,6 @@
 -- `two_more` meets its contract: rows 0 and 1 take one column after the other, row 2 takes both.
 use Prim.Native.Nat.{ℕ}
-use mathlib.Core.Path.{refl, ap, _∙_}
+use mathlib.Core.Path.{ap, _∙_}
 use mathlib.Core.List.{List}
 use borrow.Author.Needs.{needs}
 use Rattle.field.specs.Field.{_⊕_, _⊗_}

@@ -4,7 +4,7 @@ use borrow.Author.Needs.{needs}
 use denote.Ref.{now}
 use lib.ListN.{length}
 use Rattle.stripe.specs.declared.Shape.{Shape}
-use Rattle.fold.specs.Shares.{foldVerdict, foldFilled}
+use Rattle.fold.specs.Fold.{foldVerdict, foldFilled}
 use Rattle.shelf.proofs.shelf_fold.Statement.{statement}
 use Rattle.shelf.proofs.shelf_fold.Tie as tie
 

@@ -49,6 +49,7 @@ use denote.Triple.Table.{entered, cited}
 use denote.Triple.Walked.{says, Stays, stay-none, stay-slice, walkOf, goes-none, goes-slice, Walks, ends-at, walked, walk-meets}
 use denote.Exit.{yes}
 use borrow.Author.Tests.{lt-ltb, le-ltb}
+use Rattle.field.proofs.Cases.{below-or-from}
 use Rattle.stripe.specs.declared.Shape.{Shape}
 use Rattle.plan.specs.declared.Span.{Span}
 use Rattle.plan.specs.Plan.{plan, spanAt}
@@ -56,7 +57,7 @@ use Rattle.plan.proofs.Span as T
 use Rattle.plan.proofs.Span.Laws as T′
 use Rattle.shelf.specs.Shelf.{shapeOf, spansAnswer}
 use Rattle.shelf.specs.declared.Answer.{Answer}
-use Rattle.shelf.proofs.Stored.{front, length-front, front-more, front-done, written-room, written-plan, lt-or-ge}
+use Rattle.shelf.proofs.Stored.{front, length-front, front-more, front-done, written-room, written-plan}
 use Rattle.shelf.proofs.Answer as P
 use Rattle.shelf.proofs.Answer.Laws as P′
 use Rattle.shelf.proofs.plan_span as at′
@@ -275,7 +276,7 @@ module _ {M : Type 1} (𝓤 : URA M) (H : Heap 𝓤) (A : Atoms 𝓤) (W : Given
         turns : (j : ℕ) → ent 𝓤 (⋆ 𝓤 H A (Inv j)) (Wp 𝓤 H (𝓣 .C) (𝓣 .Λ) En mir′.turn-1 (afterTurn 𝓤 H (Below 𝓤 H A _<_ Inv j) Left))
         turns j = ⊎-elim (λ small. more j (n - j) refl small)
             (λ big. let e : n ≡ n - j = omega arith in subst (λ (c : ℕ). ent 𝓤 (⋆ 𝓤 H A (Here c)) (Wp 𝓤 H (𝓣 .C) (𝓣 .Λ) En mir′.turn-1 (afterTurn 𝓤 H (Below 𝓤 H A _<_ Inv j) Left))) e (ends (Below 𝓤 H A _<_ Inv j)))
-            (lt-or-ge (n - j) n)
+            (below-or-from (n - j) n)
 
         runs-loop : ent 𝓤 (⋆ 𝓤 H A (Inv n)) (Wp 𝓤 H (𝓣 .C) (𝓣 .Λ) En (loop mir′.turn-1) Left)
         runs-loop = loop-rule 𝓤 H (W .laws) 𝓣 _<_ (Nat·lt-wfRel .wf) En mir′.turn-1 Left (λ j. ⋆ 𝓤 H A (Inv j)) turns n

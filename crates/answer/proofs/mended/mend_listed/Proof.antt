@@ -7,7 +7,6 @@ use denote.Ref.{now}
 use lib.ListN.{length, drop, length-append}
 use lib.Seq.{length-take-le, take-at}
 use Rattle.mending.specs.Mend.{Mended}
-use Rattle.answer.specs.Answer.{pairs}
 use Rattle.answer.proofs.Pairs.{pairs-length}
 use borrow.Author.Needs.{needs}
 use Rattle.answer.proofs.mended.mend_listed.Statement.{statement}

@@ -1,9 +1,11 @@
 -- `clear` meets its contract.
 use borrow.Author.Needs.{needs}
-use Prim.Native.Nat.{_-_, _≤_}
+use Prim.Native.Nat.{_+_, _*_, _-_, _≤_}
 use mathlib.Core.Logic.{inr}
 use native.Mathlib.Omega.{arith}
 use native.Mathlib.Nat.{mul-le-mul-right}
+use lib.ListN.{length}
+use Rattle.products.proofs.Mixing.{Apart, within-made}
 use Rattle.mending.proofs.Slots.{Clearing, clearing-start, clearing-turn, clearing-done}
 use Rattle.mending.proofs.solve.clear.Statement.{statement}
 use Rattle.mending.proofs.solve.clear.Tie as tie
@@ -30,13 +32,7 @@ sub-mix : tie.Need-sub-mix Inv-loop μ-loop
 sub-mix c = let some : 1 ≤ c .before .before .loop .u - 1 = omega (arith, c .before .loop-test .taken) in omega (arith, mul-le-mul-right (c .before .before .before .before .args .d) some)
 
 mix-requires : tie.Need-mix-requires Inv-loop μ-loop
-mix-requires c κs =
-    let w = c .before .before .before .before .pre in
-    let t = c .before .before .loop .inv in
-    let r = w .0 .room (c .before .before .loop .u - 1) (omega arith) in
-    let some : 1 ≤ c .before .before .loop .u - 1 = omega (arith, c .before .loop-test .taken) in
-    let back = mul-le-mul-right (c .before .before .before .before .args .d) some in
-    record { first = omega (arith, r, t .1 .1 .long); second = omega (arith, r, t .1 .1 .long); clear = inr (omega (arith, w .0 .wide, back)) }
+mix-requires c κs = search needs
 
 loop-less : tie.Need-loop-less Inv-loop μ-loop
 loop-less c = search needs
@@ -44,12 +40,17 @@ loop-less c = search needs
 loop-again : tie.Need-loop-again Inv-loop μ-loop
 loop-again c =
     let a = c .before .before .before .before .before .before .before .args in
-    let t = c .before .before .before .before .before .loop in (
+    let t = c .before .before .before .before .before .loop in
+    let w = c .before .before .before .before .before .before .before .pre in
+    let r = w .0 .room (t .u - 1) (omega arith) in
+    let some : 1 ≤ t .u - 1 = omega (arith, c .before .before .before .before .loop-test .taken) in
+    let back = mul-le-mul-right (a .d) some in
+    let far : Apart (a .at + (t .u - 1) * a .d) (a .at + (t .u - 1) * a .d - a .d) (a .n) (length (t .slots)) = record { first = omega (arith, r, t .inv .1 .1 .long); second = omega (arith, r, t .inv .1 .1 .long); clear = inr (omega (arith, w .0 .wide, back)) } in (
       omega (arith, c .before .before .before .before .loop-test .taken),
       (
         omega (arith, t .inv .1 .0),
         clearing-turn (a .c) (a .e) (a .at) (a .d) (a .n) (a .slots .now) (t .slots) (c .before .before .mix .last .0) (t .u) (t .u - 1)
-            (omega arith) (omega (arith, c .before .before .before .before .loop-test .taken)) (omega (arith, t .inv .1 .0, t .inv .0)) (c .before .before .before .before .before .before .before .pre .0 .wide) (t .inv .1 .1) (c .before .before .mix .ensures),
+            (omega arith) (omega (arith, c .before .before .before .before .loop-test .taken)) (omega (arith, t .inv .1 .0, t .inv .0)) (c .before .before .before .before .before .before .before .pre .0 .wide) (t .inv .1 .1) (within-made far (c .before .before .mix .ensures)),
       ),
     )
 

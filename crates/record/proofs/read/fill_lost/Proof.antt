@@ -6,7 +6,8 @@ use native.Mathlib.Omega.{arith}
 use lib.ListN.{length, getD, take, drop, set, length-set}
 use borrow.Author.Needs.{needs}
 use denote.Ref.{now}
-use Rattle.record.specs.Reading.{valueOf, nextOf, positionsAt}
+use Rattle.number.specs.Number.{valueOf, nextOf}
+use Rattle.record.specs.Reading.{positionsAt}
 use Rattle.record.proofs.Listing.{positions-small, list-turn, list-done}
 use Rattle.record.proofs.Survivors.{all-left}
 use Rattle.record.proofs.read.fill_lost.Statement.{statement}

@@ -6,7 +6,8 @@ use borrow.Author.Needs.{needs}
 use denote.Ref.{now}
 use Rattle.number.specs.declared.Number.{Number}
 use Rattle.record.specs.declared.read.Listed.the-variants.{Upto}
-use Rattle.record.specs.Reading.{valueOf, nextOf, positionRefusal, positionsRefusal, afterPositions}
+use Rattle.number.specs.Number.{valueOf, nextOf}
+use Rattle.record.specs.Reading.{positionRefusal, positionsRefusal, afterPositions}
 use Rattle.record.proofs.Listing.{value-most}
 use Rattle.record.proofs.Refusals.{positions-stop, positions-turn, after-turn, positions-done, unlisted, listed}
 use Rattle.record.proofs.read.judge_positions.Statement.{statement}

@@ -7,7 +7,8 @@ use lib.ListN.{length}
 use borrow.Author.Needs.{needs}
 use denote.Ref.{now}
 use Rattle.stripe.specs.Shape.{columns}
-use Rattle.record.specs.Reading.{valueOf, nextOf, listedOf, columnsRefusal}
+use Rattle.number.specs.Number.{valueOf, nextOf}
+use Rattle.record.specs.Reading.{listedOf, columnsRefusal}
 use Rattle.record.proofs.Refusals.{described, listed-upto, listed-not, rest-count, rest-many, rest-positions, rest-columns, refused-rest, lawful-rest, lawful-is}
 use Rattle.record.proofs.read.judge_rest.Statement.{statement}
 use Rattle.record.proofs.read.judge_rest.Tie as tie

@@ -3,8 +3,8 @@ use mathlib.Core.Path.{sym, ap, ap₂, _∙_}
 use borrow.Author.Needs.{needs}
 use denote.Ref.{now}
 use Rattle.record.specs.declared.read.Head.the-variants.{Shaped}
-use Rattle.number.specs.Number.{numberAt, numberRefusal}
-use Rattle.record.specs.Reading.{nextOf, valueOf, stripeRefusal}
+use Rattle.number.specs.Number.{numberAt, numberRefusal, nextOf, valueOf}
+use Rattle.record.specs.Reading.{stripeRefusal}
 use Rattle.record.proofs.Refusals.{unshaped, shaped, head-first, head-second, head-third, head-fourth, head-stripe, head-lawful, shape-is}
 use Rattle.record.proofs.read.read_head.Statement.{statement}
 use Rattle.record.proofs.read.read_head.Tie as tie

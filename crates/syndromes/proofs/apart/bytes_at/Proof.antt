@@ -1,8 +1,10 @@
 -- `bytes_at` meets its contract: the part is copied over zeros.
 use Prim.Native.Nat.{ℕ}
+use mathlib.Core.Path.{ap, _∙_}
 use native.Mathlib.Omega.{arith}
-use lib.ListN.{length-replicate}
-use Rattle.syndromes.proofs.Upwards.{copied}
+use lib.ListN.{length, length-replicate}
+use Rattle.lanes.proofs.Onto.{onto-length}
+use Rattle.lanes.proofs.Parts.{copied}
 use borrow.Author.Needs.{needs}
 use Rattle.syndromes.proofs.apart.bytes_at.Statement.{statement}
 use Rattle.syndromes.proofs.apart.bytes_at.Tie as tie
@@ -28,7 +30,9 @@ copy-requires c κs = search needs
 returns : tie.Need-returns
 returns c =
     let a = c .before .before .before .before .before .args in
-    copied _ _ _ (a .at) 64 64 (c .before .before .before .before .before .pre) (omega arith) (length-replicate {A = ℕ} 64 0) (c .before .copy .ensures)
+    let is = c .before .copy .ensures in
+    let long = length-replicate {A = ℕ} 64 0 in
+    (ap length is ∙ onto-length (λ (x y : ℕ). y) _ _ ∙ long, copied _ _ _ (a .at) 64 (c .before .before .before .before .before .pre) (omega (arith, long)) is)
 
 pub bytes-at-spec : {M : Type 1} → statement M
 bytes-at-spec =

@@ -1,0 +1,98 @@
+// Bytes of one slice taken to others of it, by way of a block: so the compiler need not ask whether the two overlap.
+use crate::scale_add;
+use lanes::add;
+use lanes::copy;
+ghost use mathlib.Core.Path.{_≡_};
+ghost use mathlib.Core.Bool.{true};
+ghost use Prim.Native.Nat.{ℕ, _≤_};
+ghost use lib.ListN.{length};
+ghost use Rattle.field.specs.Field.{_⊕_, _⊗_};
+ghost use Rattle.products.specs.Within.{apart, within};
+
+// To the n bytes from `to` on c times those from `from` on; nothing where they are not all there, or not apart.
+pub fn mix(a: &mut [u8], to: usize, from: usize, n: usize, c: u8)
+    ensures { λ _. ⌜ now (a .exit) ≡ within (λ (x y : ℕ). x ⊕ c ⊗ y) to from n (now (a .entry)) ⌝ }
+{
+    if !are_apart(to, from, n, a.len()) {
+        return;
+    }
+    if c == 1 {
+        add_within(a, to, from, n);
+        return;
+    }
+    scale_within(a, to, from, n, c);
+}
+
+// Whether the n places from `to` on and those from `from` on are all of len, and apart.
+fn are_apart(to: usize, from: usize, n: usize, len: usize) -> bool
+    ensures { λ v. ⌜ v ≡ apart to from n len ⌝ }
+{
+    if len < n {
+        return false;
+    }
+    let last = len - n;
+    if last < to {
+        return false;
+    }
+    if last < from {
+        return false;
+    }
+    if to + n <= from {
+        return true;
+    }
+    from + n <= to
+}
+
+// To the n bytes from `to` on those from `from` on.
+fn add_within(a: &mut [u8], to: usize, from: usize, n: usize)
+    requires { ⌜ apart to from n (length (now a)) ≡ true ⌝ }
+    ensures { λ _. ⌜ now (a .exit) ≡ within (λ (x y : ℕ). x ⊕ y) to from n (now (a .entry)) ⌝ }
+{
+    let mut q = 0;
+    while 64 <= n - q {
+        add_part(a, to + q, from + q, 64);
+        q += 64;
+    }
+    if q < n {
+        add_part(a, to + q, from + q, n - q);
+    }
+}
+
+// The same of at most 64 bytes.
+fn add_part(a: &mut [u8], to: usize, from: usize, n: usize)
+    requires { ⌜ (apart to from n (length (now a)) ≡ true) × (n ≤ 64) ⌝ }
+    ensures { λ _. ⌜ now (a .exit) ≡ within (λ (x y : ℕ). x ⊕ y) to from n (now (a .entry)) ⌝ }
+{
+    let mut t = [0u8; 64];
+    let e = from + n;
+    copy(&mut t, &a[from..e]);
+    let f = to + n;
+    add(&mut a[to..f], &t);
+}
+
+// To the n bytes from `to` on c times those from `from` on.
+fn scale_within(a: &mut [u8], to: usize, from: usize, n: usize, c: u8)
+    requires { ⌜ apart to from n (length (now a)) ≡ true ⌝ }
+    ensures { λ _. ⌜ now (a .exit) ≡ within (λ (x y : ℕ). x ⊕ c ⊗ y) to from n (now (a .entry)) ⌝ }
+{
+    let mut q = 0;
+    while 64 <= n - q {
+        scale_part(a, to + q, from + q, 64, c);
+        q += 64;
+    }
+    if q < n {
+        scale_part(a, to + q, from + q, n - q, c);
+    }
+}
+
+// The same of at most 64 bytes.
+fn scale_part(a: &mut [u8], to: usize, from: usize, n: usize, c: u8)
+    requires { ⌜ (apart to from n (length (now a)) ≡ true) × (n ≤ 64) ⌝ }
+    ensures { λ _. ⌜ now (a .exit) ≡ within (λ (x y : ℕ). x ⊕ c ⊗ y) to from n (now (a .entry)) ⌝ }
+{
+    let mut t = [0u8; 64];
+    let e = from + n;
+    copy(&mut t, &a[from..e]);
+    let f = to + n;
+    scale_add(&mut a[to..f], c, &t);
+}

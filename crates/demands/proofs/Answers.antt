@@ -7,7 +7,6 @@ use mathlib.Core.List.{List}
 use borrow.Author.Tests.{eq-eqb, ne-eqb}
 use lib.Dec.{eqb}
 use lib.ListN.{length}
-use Rattle.field.specs.Field.{_⊕_}
 use Rattle.stripe.specs.declared.Shape.{Shape}
 use Rattle.lost.specs.Positions.{positions}
 use Rattle.mending.specs.Mend.{mendRefusal, Restored, Mended}
@@ -16,8 +15,7 @@ use Rattle.writing.specs.declared.Written.{Written}
 use Rattle.record.specs.Reading.{readRefusal}
 use Rattle.writing.specs.Writing.{writeRefusal}
 use Rattle.demands.specs.Calls.{Reads, Writes}
-use Rattle.answer.proofs.Outcome.{zero-or-not}
-use Rattle.field.proofs.Xor.{add-zero, add-cancel}
+use Rattle.field.proofs.Cases.{zero-or-not}
 
 -- what is done where the answer is 0, and what is left where it is not
 pub done : {A : Type 0} (v : ℕ) (x y : A) → v ≡ 0 → cond (eqb v 0) x y ≡ x
@@ -52,7 +50,3 @@ passed s xs ls v xs′ p z = go (zero-or-not (mendRefusal s (length xs) ls))
     go : (mendRefusal s (length xs) ls ≡ 0) ⊎ (mendRefusal s (length xs) ls ≡ 0 → ⊥) → mendRefusal s (length xs) ls ≡ 0
     go (inl e) = e
     go (inr n) = sym (p .refused n .0) ∙ z
-
--- two bytes whose sum is 0 are equal
-pub add-none : (a b : ℕ) → a ⊕ b ≡ 0 → a ≡ b
-add-none a b e = sym (add-zero a) ∙ ap (λ (x : ℕ). a ⊕ x) (sym e) ∙ add-cancel a b

@@ -13,6 +13,8 @@ use lib.ListN.{length, getD, drop}
 use Rattle.field.specs.Field.{_⊕_}
 use Rattle.field.specs.Bytes.{Bytes}
 use Rattle.field.specs.Row.{row}
+use Rattle.field.proofs.Powers.{sum-zero}
+use Rattle.field.proofs.Cases.{zero-or-not}
 use Rattle.stripe.specs.declared.Shape.{Shape}
 use Rattle.stripe.specs.Shape.{shapeRefusal, columns, stripeLength}
 use Rattle.stripe.specs.Stripe.{across, rowAt, parityByte, parity, dataOf, Codeword, Ascending, Agree}
@@ -23,17 +25,18 @@ use Rattle.mending.specs.Mend.{mendRefusal}
 use Rattle.plan.specs.declared.Span.{Span}
 use Rattle.plan.specs.Plan.{foldRefusal, columnsRead, bytesRead, plan, summed, wideShape}
 use Rattle.plan.specs.Cost.{columnsNeeded, bandwidthNeeded}
-use Rattle.fold.specs.Fold.{foldOf, cutOut, wideData, wideStripe, disagreement}
-use Rattle.fold.specs.Shares.{foldVerdict, foldFilled}
+use Rattle.fold.specs.Fold.{foldOf, foldVerdict, foldFilled, cutOut, wideData, wideStripe, disagreement}
 use Rattle.record.specs.declared.read.Got.{Got}
 use Rattle.writing.specs.declared.Written.{Written}
-use Rattle.record.specs.Layout.{recordOf, survivors, restored, LaidOut}
+use Rattle.record.specs.Layout.{recordOf, survivors, restored}
+use Rattle.writing.specs.Writing.{LaidOut}
 use Rattle.record.specs.Reading.{shapeOf as recordShape, firstOf, unless, countOf, lostOf, columnsFilled, positionsFilled, stripeRefusal, contentRefusal, readRefusal}
 use Rattle.writing.specs.Writing.{writeRefusal}
 use Rattle.answer.specs.declared.mended.Answer.{Answer}
+use Rattle.answer.specs.Answer.{described}
 use Rattle.text.specs.Text.{textRoom}
 use Rattle.shelf.specs.Shelf.{shapeOf, spansRefusal, spansFilled}
-use Rattle.demands.specs.Calls.{Names, Encodes, Mends, Folds, PlanRefuses, PlanColumns, PlanBytes, PlanSpans, Column, Reads, Writes, MendsRecord, Prints, encodeTable, mendTable, planTable, foldTable, spansTable, readTable, writeTable}
+use Rattle.demands.specs.Calls.{Names, Encodes, Mends, Folds, PlanRefuses, PlanColumns, PlanBytes, PlanSpans, Column, Reads, Writes, MendsRecord, Prints, encodeTable, mendTable, planTable, foldTable, spansTable, readTable, writeTable, RecordJudged, mendedAnswer, refusedAnswer, textWith}
 use Rattle.stripe.proofs.Allowed.{allowed}
 use Rattle.stripe.proofs.Places.{parity-at, parity-below, parity-from, plain-parity, encoded-codeword}
 use Rattle.stripe.proofs.Determined.{determined}
@@ -48,10 +51,10 @@ use Rattle.fold.proofs.Shows.{folded-parity, one-shows}
 use Rattle.record.proofs.Refusals.{first-zero, skip, end, stripe-lawful}
 use Rattle.record.proofs.Accepted.{unless-zero}
 use Rattle.writing.proofs.Putting.{writable}
-use Rattle.writing.proofs.Inverse.{accepts, accepts-no-other, shape-back, count-back, lost-back, filled-back, bytes-back}
-use Rattle.answer.proofs.Outcome.{zero-or-not}
+use Rattle.writing.proofs.Inverse.{accepts, accepts-no-other, count-back, filled-back, bytes-back}
 use Rattle.demands.proofs.Contracts.{AllMet, all-met}
-use Rattle.demands.proofs.Answers.{done, left, got-number, written-number, Outcome, passed, add-none}
+use Rattle.demands.proofs.Answers.{done, left, got-number, written-number, Outcome, passed}
+use Rattle.demands.proofs.Mended.{over-front, record-judged, laid-shape, laid-lost, laid-described}
 use Rattle.demands.proofs.Runs.{in-run}
 use Rattle.demands.proofs.Named.{names-parity}
 use Rattle.demands.proofs.Tables.{encode-table, mend-table, plan-table, fold-table, spans-table, read-table, write-table}
@@ -167,19 +170,65 @@ demand-1-write s xs es out v out′ p =
     let number : v .number ≡ refusal = written-number s xs es out v out′ p in
     (number ∙ write-table s xs es (length out), λ h. p .1 ∙ left refusal _ out (λ z. h (number ∙ z)))
 
--- a record mended: it is read whole first
+-- A record mended: the number is the first of reading's table, else 7, 8 or 0 as the stripe read is mended (`RecordJudged`). With 0 the shape and the
+-- number of lost columns are reported, and the mended stripe and the lost positions stand at the fronts of the buffer and the list; what follows
+-- stays. A refusal reports zeros and leaves both.
 pub demand-1-mend-record : (bs xs es : List ℕ) (v : Answer) (xs′ es′ : List ℕ) → MendsRecord bs xs es v xs′ es′
-    → ((firstOf (readTable bs (length xs) (length es)) ≡ 0 → ⊥) → v .number ≡ firstOf (readTable bs (length xs) (length es)))
-    × ((v .number ≡ 0 → ⊥) → (xs′ ≡ xs) × (es′ ≡ es))
-demand-1-mend-record bs xs es v xs′ es′ p =
-    let e = read-table bs (length xs) (length es) in (
-      λ h. p .outcome .unread (λ z. h (sym e ∙ z)) .0 ∙ e,
-      λ h. (p .stripe ∙ left (v .number) _ xs h, p .list ∙ left (v .number) _ es h),
-    )
+    → (ys : List ℕ)
+    × (RecordJudged bs (length xs) (length es) (v .number) ys
+    × ((v .number ≡ 0 → (v ≡ mendedAnswer bs) × ((xs′ ≡ ys ++ drop (length ys) xs) × (es′ ≡ lostOf bs ++ drop (length (lostOf bs)) es)))
+    × ((v .number ≡ 0 → ⊥) → (v ≡ refusedAnswer (v .number)) × ((xs′ ≡ xs) × (es′ ≡ es)))))
+demand-1-mend-record bs xs es v xs′ es′ p = (
+  p .bytes,
+  (
+    record-judged bs (length xs) (length es) (v .number) (p .bytes) (p .outcome),
+    (
+      λ z. (
+        p .reported ∙ done (v .number) (mendedAnswer bs) (refusedAnswer (v .number)) z,
+        (
+          p .stripe ∙ done (v .number) _ xs z ∙ over-front xs (p .bytes),
+          p .list ∙ done (v .number) _ es z ∙ over-front es (lostOf bs),
+        ),
+      ),
+      λ h. (
+        p .reported ∙ left (v .number) (mendedAnswer bs) (refusedAnswer (v .number)) h,
+        (p .stripe ∙ left (v .number) _ xs h, p .list ∙ left (v .number) _ es h),
+      ),
+    ),
+  ),
+)
 
--- the program's text, with too little room for any
-pub demand-1-answer : (bs out : List ℕ) (v : ℕ) (out′ : List ℕ) → Prints bs out v out′ → length out < textRoom → (v ≡ 0) × (out′ ≡ out)
-demand-1-answer bs out v out′ p h = p .cramped h
+-- What such a record describes is what is laid out: the shape, the lost positions, and the bytes of every surviving column.
+pub demand-1-described : (bs : List ℕ) (w : LaidOut bs)
+    → (recordShape bs ≡ w .shape) × ((lostOf bs ≡ w .lost) × Agree (w .shape) (w .lost) (w .stripe) (described bs))
+demand-1-described bs w = (laid-shape bs w, (laid-lost bs w, laid-described bs w))
+
+-- The program's text: with room for 140,000 bytes the text of the record's outcome stands at the front, the answer is its length, and what follows
+-- stays. With less room the answer is 0, and all stays.
+pub demand-1-answer : (bs out : List ℕ) (v : ℕ) (out′ : List ℕ) → Prints bs out v out′
+    → (length out < textRoom → (v ≡ 0) × (out′ ≡ out))
+    × (textRoom ≤ length out
+    → (n : ℕ)
+    × ((ys : List ℕ)
+    × (RecordJudged bs 65536 258 n ys × ((v ≡ length (textWith bs n ys)) × (out′ ≡ textWith bs n ys ++ drop (length (textWith bs n ys)) out)))))
+demand-1-answer bs out v out′ p = (
+  p .cramped,
+  λ h.
+      let f = p .roomy h in
+      let t = f .program in (
+        t .number,
+        (
+          t .bytes,
+          (
+            record-judged bs 65536 258 (t .number) (t .bytes) (t .outcome),
+            (
+              f .long ∙ ap length (t .lines),
+              f .bytes ∙ over-front out (f .text) ∙ ap (λ (text : List ℕ). text ++ drop (length text) out) (t .lines),
+            ),
+          ),
+        ),
+      ),
+)
 
 -- ---- Demand 2
 -- "Parity is the published merge-regime code over GF(256), with piggybacks in prepared stripes. At most r lost columns are mended to the only codeword
@@ -308,11 +357,11 @@ pub demand-2-record-read : (bs xs ls : List ℕ) (v : Got) (xs′ ls′ : List �
     × (Agree (w .shape) (w .lost) (w .stripe) xs′
     × (xs′ ≡ restored (w .shape .l) (w .lost) 0 (columns (w .shape)) (survivors (w .shape .l) (w .lost) 0 (columns (w .shape)) (w .stripe)) xs))))
 demand-2-record-read bs xs ls v xs′ ls′ p z long w = (
-  ap (λ (g : Got). g .shape) got ∙ shape,
+  ap (λ (g : Got). g .shape) got ∙ laid-shape bs w,
   (
     ap (λ (g : Got). g .lost) got ∙ count,
     (
-      p .1 .1 ∙ done refusal (positionsFilled bs ls) ls none ∙ ap₂ (λ (es : List ℕ) (m : ℕ). es ++ drop m ls) lost count,
+      p .1 .1 ∙ done refusal (positionsFilled bs ls) ls none ∙ ap₂ (λ (es : List ℕ) (m : ℕ). es ++ drop m ls) (laid-lost bs w) count,
       (
         subst (Agree (w .shape) (w .lost) (w .stripe)) (sym bytes)
             (bytes-back (w .shape) (w .lost) (w .stripe) xs lawful (w .ascending) (w .exact) (omega (arith, w .short))),
@@ -334,14 +383,8 @@ demand-2-record-read bs xs ls v xs′ ls′ p z long w = (
     lawful : stripeRefusal (w .shape) ≡ 0
     lawful = sym (stripe-lawful (w .shape) (w .allowed) (w .short))
 
-    shape : recordShape bs ≡ w .shape
-    shape = ap (λ (b : List ℕ). recordShape b) (w .bytes) ∙ sym (shape-back (w .shape) (w .lost) (w .stripe) lawful (w .ascending) (w .exact))
-
     count : countOf bs ≡ length (w .lost)
     count = ap (λ (b : List ℕ). countOf b) (w .bytes) ∙ count-back (w .shape) (w .lost) (w .stripe) lawful (w .ascending) (w .exact)
-
-    lost : lostOf bs ≡ w .lost
-    lost = ap (λ (b : List ℕ). lostOf b) (w .bytes) ∙ lost-back (w .shape) (w .lost) (w .stripe) lawful (w .ascending) (w .exact)
 
     bytes : xs′ ≡ columnsFilled (recordOf (w .shape) (w .lost) (w .stripe)) xs
     bytes = p .1 .0 ∙ done refusal (columnsFilled bs xs) xs none ∙ ap (λ (b : List ℕ). columnsFilled b xs) (w .bytes)
@@ -408,7 +451,7 @@ module _ (k r t l f : ℕ) (zss : List (List ℕ)) (planned : PlanRefuses k r t 
   demand-3-stale-shows long x bytes others i p names wrong ps room v ps′ q w =
       let at = names-parity old n f x i p names in
       one-shows old f zss (sym planned) long x (at .0) bytes others i p (at .1 .0) (at .1 .1)
-      (λ e. wrong (add-none _ _ e)) (subst (λ (qs : List ℕ). Codeword wide (wideData old zss ++ qs)) (folded ps v ps′ long room q .1) w)
+      (λ e. wrong (sum-zero _ _ e)) (subst (λ (qs : List ℕ). Codeword wide (wideData old zss ++ qs)) (folded ps v ps′ long room q .1) w)
 
   -- The volume reported is the length of what the fold is handed, and the summed length of the plan's spans.
   pub demand-3-volume : ((x : ℕ) → x < n → length (getD zss x []) ≡ stripeLength old) → (v : ℕ) → PlanBytes k r t l n f v

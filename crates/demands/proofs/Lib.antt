@@ -2,5 +2,6 @@ pub mod Contracts
 pub mod Tables
 pub mod Named
 pub mod Answers
+pub mod Mended
 pub mod Runs
 pub mod Demands

@@ -12,10 +12,10 @@ use Rattle.stripe.specs.Column.{lentRefusal}
 use Rattle.lost.specs.Positions.{positions, ascending, listRefusal}
 use Rattle.mending.specs.Mend.{mendRefusal}
 use Rattle.plan.specs.Plan.{stripesAllowed, newAllowed, foldRefusal, columnsRead, bytesRead}
-use Rattle.fold.specs.Shares.{foldVerdict}
-use Rattle.number.specs.Number.{numberRefusal}
+use Rattle.fold.specs.Fold.{foldVerdict}
+use Rattle.number.specs.Number.{numberRefusal, nextOf}
 use Rattle.record.specs.Layout.{recordOf}
-use Rattle.record.specs.Reading.{shapeOf, firstOf, unless, firstNumber, secondNumber, thirdNumber, fourthNumber, countNumber, nextOf, countOf, columnsStart, stripeRefusal, headRefusal, positionsRefusal, columnsRefusal, contentRefusal, readRefusal}
+use Rattle.record.specs.Reading.{shapeOf, firstOf, unless, firstNumber, secondNumber, thirdNumber, fourthNumber, countNumber, countOf, columnsStart, stripeRefusal, headRefusal, positionsRefusal, columnsRefusal, contentRefusal, readRefusal}
 use Rattle.writing.specs.Writing.{ascends, writeRefusal}
 use Rattle.shelf.specs.Shelf.{spansRefusal}
 use Rattle.demands.specs.Calls.{numbersAllowed, encodeTable, mendTable, planTable, foldTable, spansTable, writeTable, readTable}

@@ -2,7 +2,8 @@
 -- a refusal stands beside the condition that it is given without, and the answer is the first that is given, else 0.
 use Prim.Native.Nat.{ℕ, _+_, _-_, _*_, _%_, _<_, _≤_}
 use mathlib.Core.Path.{_≡_}
-use mathlib.Core.Bool.{Bool, _&&_}
+use mathlib.Core.Bool.{Bool, cond, _&&_}
+use mathlib.Core.Logic.{_⊎_}
 use mathlib.Core.List.{List, [], _∷_}
 use lib.Dec.{leb, eqb}
 use lib.ListN.{length}
@@ -11,18 +12,19 @@ use Rattle.stripe.specs.Shape.{dataAllowed, parityAllowed, markAllowed, lengthA
 use Rattle.stripe.specs.Column.{columnOf}
 use Rattle.coding.specs.Encode.{encodeRefusal, encoded}
 use Rattle.lost.specs.Positions.{positions, ascending}
-use Rattle.mending.specs.Mend.{Mended}
+use Rattle.mending.specs.Mend.{Restored, Mended}
 use Rattle.plan.specs.declared.Span.{Span}
 use Rattle.plan.specs.Plan.{stripesAllowed, newAllowed, foldRefusal, plan, spanAt, columnsRead, bytesRead}
-use Rattle.fold.specs.Shares.{foldVerdict, foldFilled}
+use Rattle.fold.specs.Fold.{foldVerdict, foldFilled}
 use Rattle.record.specs.declared.read.Got.{Got}
 use Rattle.writing.specs.declared.Written.{Written}
-use Rattle.number.specs.Number.{numberRefusal}
+use Rattle.number.specs.Number.{numberRefusal, nextOf}
 use Rattle.record.specs.Layout.{recordOf}
-use Rattle.record.specs.Reading.{shapeOf as recordShape, unless, firstNumber, secondNumber, thirdNumber, fourthNumber, countNumber, nextOf, countOf, columnsStart, positionsRefusal, columnsRefusal, gotOf, stripeRead, lostRead}
+use Rattle.record.specs.Reading.{shapeOf as recordShape, firstOf, unless, firstNumber, secondNumber, thirdNumber, fourthNumber, countNumber, countOf, lostOf, columnsStart, positionsRefusal, columnsRefusal, gotOf, stripeRead, lostRead}
 use Rattle.writing.specs.Writing.{ascends, writtenOf, outWritten}
 use Rattle.answer.specs.declared.mended.Answer.{Answer}
-use Rattle.answer.specs.Answer.{Answered, Printed}
+use Rattle.answer.specs.Answer.{described, Answered, Printed}
+use Rattle.text.specs.Text.{stripeText, refusalText}
 use Rattle.shelf.specs.Shelf.{shapeOf, spansRefusal, spansFilled}
 
 -- ---- the calls
@@ -147,6 +149,29 @@ readTable bs a b =
     ∷ positionsRefusal bs (columns (recordShape bs)) (countOf bs) 0 (nextOf (countNumber bs))
     ∷ columnsRefusal (length bs - columnsStart bs) ((columns (recordShape bs) - countOf bs) * recordShape bs .l)
     ∷ []
+
+-- ---- a record mended
+
+-- the number n of a record that is read with a lent buffer and a list of these lengths, and the stripe ys that it is mended to: first reading's
+-- table; then 7 for more than r lost columns; then 8 where no codeword agrees with every survivor, else 0 and ys is such a codeword
+pub record RecordJudged (bs : List ℕ) (a b n : ℕ) (ys : List ℕ) : Type 0 where
+  pub unread : (firstOf (readTable bs a b) ≡ 0 → ⊥) → n ≡ firstOf (readTable bs a b)
+  pub many : firstOf (readTable bs a b) ≡ 0 → recordShape bs .r < countOf bs → n ≡ 7
+  pub few : firstOf (readTable bs a b) ≡ 0 → countOf bs ≤ recordShape bs .r
+      → ((n ≡ 0) × Restored (recordShape bs) (lostOf bs) (described bs) ys)
+      ⊎ ((n ≡ 8) × ((zs : List ℕ) → Restored (recordShape bs) (lostOf bs) (described bs) zs → ⊥))
+
+-- the answer with the number 0: the shape and the number of lost columns
+abbrev pub mendedAnswer : List ℕ → Answer
+mendedAnswer bs = record { number = 0; shape = recordShape bs; lost = countOf bs }
+
+-- the answer with a refusal: zeros
+abbrev pub refusedAnswer : ℕ → Answer
+refusedAnswer n = record { number = n; shape = record { k = 0; r = 0; t = 0; l = 0 }; lost = 0 }
+
+-- the text that is printed with the number n: the mended stripe ys, or the refusal alone
+abbrev pub textWith : List ℕ → ℕ → List ℕ → List ℕ
+textWith bs n ys = cond (eqb n 0) (stripeText (recordShape bs) (lostOf bs) ys) (refusalText n)
 
 -- ---- what a plan names
 

@@ -4,8 +4,16 @@
 use checking::Wrong;
 use checking::first_wrong;
 use coding::encode::encode;
+use counts::bytes_read;
+use counts::columns_read;
 use field::Gf;
+use fold::fold;
+use number::write_number;
+use plan::fold_refusal;
+use record::read::read_record;
 use stripe::Shape;
+use stripe::column::column;
+use writing::write_record;
 
 fn text(words: &[u8]) {
     io::write_all(libc::STDOUT_FILENO, words);
@@ -30,6 +38,16 @@ fn bytes(xs: &[u8]) {
     }
 }
 
+fn named(words: &[u8], n: usize) {
+    text(words);
+    number(n);
+}
+
+fn listed(words: &[u8], xs: &[u8]) {
+    text(words);
+    bytes(xs);
+}
+
 fn product(a: u8, b: u8) {
     byte(a);
     text(b" times ");
@@ -40,65 +58,116 @@ fn product(a: u8, b: u8) {
 }
 
 fn power(n: usize) {
-    text(b"g^");
-    number(n);
+    named(b"g^", n);
     text(b" is ");
     byte(Gf::power(n).0);
     text(b"\n");
 }
 
 fn shape(s: Shape) {
-    text(b"k=");
-    number(s.k);
-    text(b" r=");
-    number(s.r);
-    text(b" t=");
-    number(s.t);
-    text(b" L=");
-    number(s.l);
+    named(b"k=", s.k);
+    named(b" r=", s.r);
+    named(b" t=", s.t);
+    named(b" L=", s.l);
 }
 
 fn refusal(k: usize, r: usize, t: usize, l: usize) {
     let s = Shape::new(k, r, t, l);
     shape(s);
-    text(b": ");
-    number(s.refusal() as usize);
+    named(b": ", s.refusal() as usize);
     text(b"\n");
 }
 
 fn parity(s: Shape, data: &[u8], parity: &mut [u8]) {
     shape(s);
-    text(b" data");
-    bytes(data);
+    listed(b" data", data);
     let no = encode(s, data, parity);
-    text(b" answers ");
-    number(no as usize);
-    text(b" parity");
-    bytes(parity);
+    named(b" answers ", no as usize);
+    listed(b" parity", parity);
     text(b"\n");
 }
 
 fn check(s: Shape, data: &[u8], parity: &[u8]) {
     shape(s);
-    text(b" data");
-    bytes(data);
-    text(b" parity");
-    bytes(parity);
+    listed(b" data", data);
+    listed(b" parity", parity);
     match first_wrong(s, data, parity) {
         Wrong::Nowhere => text(b" agrees\n"),
         Wrong::At(column, place) => {
-            text(b" is wrong at ");
-            number(column);
-            text(b", ");
-            number(place);
+            named(b" is wrong at ", column);
+            named(b", ", place);
             text(b"\n");
         }
         Wrong::Refused(no) => {
-            text(b" is refused ");
-            number(no as usize);
+            named(b" is refused ", no as usize);
             text(b"\n");
         }
     }
+}
+
+fn plan(s: Shape, stripes: usize, f: usize) {
+    shape(s);
+    named(b" N=", stripes);
+    named(b" f=", f);
+    named(b": ", fold_refusal(s, stripes, f) as usize);
+    named(b", ", bytes_read(s, stripes, f).number() as usize);
+    named(b" bytes, ", columns_read(s, stripes, f).number() as usize);
+    text(b" columns\n");
+}
+
+fn folded(s: Shape, f: usize, read: &[u8], parity: &mut [u8]) {
+    plan(s, 2, f);
+    listed(b"  read", read);
+    let no = fold(s, 2, f, read, parity);
+    named(b" answers ", no as usize);
+    listed(b" parity", parity);
+    text(b"\n");
+}
+
+fn part<'a>(s: Shape, data: &'a [u8], parity: &'a [u8], at: usize) {
+    named(b"column ", at);
+    listed(b":", column(s, data, parity, at));
+    text(b"\n");
+}
+
+fn written(value: u32) {
+    let mut out = [0u8; 5];
+    let n = write_number(value, &mut out, 0);
+    number(value as usize);
+    listed(b" is written", &out);
+    named(b", next place ", n);
+    text(b"\n");
+}
+
+fn recorded(s: Shape, stripe: &[u8], lost: &[u16]) {
+    let mut out = [0xeeu8; 16];
+    let w = write_record(s, stripe, lost, &mut out);
+    shape(s);
+    listed(b" stripe", stripe);
+    named(b" answers ", w.number as usize);
+    named(b", ", w.length);
+    listed(b" bytes:", &out);
+    text(b"\n");
+}
+
+fn front(xs: &[u8]) {
+    if 8 <= xs.len() {
+        bytes(&xs[..8]);
+    }
+}
+
+fn taken(record: &[u8]) {
+    let mut stripe = [0xeeu8; 65536];
+    let mut lost = [7u16; 258];
+    let got = read_record(record, &mut stripe, &mut lost);
+    listed(b"record", record);
+    named(b" answers ", got.number as usize);
+    text(b", ");
+    shape(got.shape);
+    named(b", ", got.lost);
+    text(b" lost, stripe");
+    front(&stripe);
+    text(b"\n");
 }
 
 fn fields() {
@@ -155,10 +224,55 @@ fn three_runs() {
     parity(Shape::new(4, 1, 3, 6), d, &mut b);
 }
 
+fn plans() {
+    plan(Shape::new(4, 1, 2, 2), 2, 2);
+    plan(Shape::new(4, 2, 0, 512), 3, 2);
+    plan(Shape::new(127, 1, 0, 1), 2, 1);
+    plan(Shape::new(128, 1, 0, 1), 2, 1);
+    plan(Shape::new(4, 2, 0, 512), 1, 2);
+}
+
+fn folds() {
+    let mut two = [0u8; 2];
+    folded(Shape::new(2, 3, 0, 1), 2, b"\x03\x05\x07\x0b", &mut two);
+    let mut three = [0u8; 3];
+    folded(Shape::new(2, 3, 0, 1), 3, b"\x01\x02\x03\x04", &mut three);
+    let mut four = [0u8; 4];
+    folded(
+        Shape::new(2, 1, 2, 2),
+        2,
+        b"\x03\x04\x03\x02\x07\x08\x03\x06",
+        &mut four,
+    );
+}
+
+fn columns() {
+    let s = Shape::new(2, 1, 2, 2);
+    part(s, b"\x01\x03\x02\x04", b"\x03\x02", 1);
+    part(s, b"\x01\x03\x02\x04", b"\x03\x02", 2);
+    part(s, b"\x01\x03\x02\x04", b"\x03\x02", 3);
+}
+
+fn records() {
+    written(300);
+    let s = Shape::new(4, 2, 0, 1);
+    let lost = [0u16, 3];
+    recorded(s, b"\x05\x06\x03\x04\x04\x29", &lost);
+    recorded(s, b"\x05\x06\x03\x04\x04\x29", &lost[1..]);
+    recorded(s, b"\x05\x06\x03\x04\x04", &lost);
+    taken(b"\x04\x02\x00\x01\x02\x00\x03\x06\x03\x04\x29");
+    taken(b"\x80\x00");
+    taken(b"");
+}
+
 fn main() {
     fields();
     allowed();
     plain();
     prepared();
     three_runs();
+    plans();
+    folds();
+    columns();
+    records();
 }

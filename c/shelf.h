@@ -1,7 +1,7 @@
 /* Stripes for the shelf daemon: k data columns and r parity columns of l bytes each, over the field of 256 elements.
  *
  * The library is libshelf.a. Each function here is proved, for every input, to return and write what this page says. It keeps no
- * state, takes no memory and calls nothing, so any thread may call it.
+ * state, takes no memory but less than 16 KiB of stack, and calls nothing but memcpy and memset, so any thread may call it.
  *
  * Numbers come as they come: none of them has to be checked before a call. A function that can refuse returns 0 (SHELF_OK), or the
  * number of a refusal, and a refusal writes nothing. Where several refusals apply, the lowest number is returned.

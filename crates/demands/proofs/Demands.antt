@@ -13,6 +13,7 @@ use lib.ListN.{length, getD, drop}
 use Rattle.field.specs.Field.{_⊕_}
 use Rattle.field.specs.Bytes.{Bytes}
 use Rattle.field.specs.Row.{row}
+use Rattle.field.proofs.Xor.{add-self}
 use Rattle.field.proofs.Powers.{sum-zero}
 use Rattle.field.proofs.Cases.{zero-or-not}
 use Rattle.stripe.specs.declared.Shape.{Shape}
@@ -38,7 +39,7 @@ use Rattle.text.specs.Text.{textRoom}
 use Rattle.shelf.specs.Shelf.{shapeOf, spansRefusal, spansFilled}
 use Rattle.demands.specs.Calls.{Names, Encodes, Mends, Folds, PlanRefuses, PlanColumns, PlanBytes, PlanSpans, Column, Reads, Writes, MendsRecord, Prints, encodeTable, mendTable, planTable, foldTable, spansTable, readTable, writeTable, RecordJudged, mendedAnswer, refusedAnswer, textWith}
 use Rattle.stripe.proofs.Allowed.{allowed}
-use Rattle.stripe.proofs.Places.{parity-at, parity-below, parity-from, plain-parity, encoded-codeword}
+use Rattle.stripe.proofs.Places.{parity-at, parity-below, parity-from, plain-parity, codeword-checks, encoded-codeword}
 use Rattle.stripe.proofs.Determined.{determined}
 use Rattle.stripe.proofs.Completed.{completed}
 use Rattle.stripe.proofs.Lent.{lent, column-empty, column-refused, column-past}
@@ -47,7 +48,7 @@ use Rattle.plan.proofs.Foldable.{IsA, IsB, IsC, foldable}
 use Rattle.plan.proofs.Counted.{bytes-counted}
 use Rattle.plan.proofs.Costs.{plain-columns, plain-bytes, prepared-bytes}
 use Rattle.fold.proofs.Cut.{cut-length}
-use Rattle.fold.proofs.Shows.{folded-parity, one-shows}
+use Rattle.fold.proofs.Shows.{named-few, folded-parity, one-shows}
 use Rattle.record.proofs.Refusals.{first-zero, skip, end, stripe-lawful}
 use Rattle.record.proofs.Accepted.{unless-zero}
 use Rattle.writing.proofs.Putting.{writable}
@@ -56,7 +57,7 @@ use Rattle.demands.proofs.Contracts.{AllMet, all-met}
 use Rattle.demands.proofs.Answers.{done, left, got-number, written-number, Outcome, passed}
 use Rattle.demands.proofs.Mended.{over-front, record-judged, laid-shape, laid-lost, laid-described}
 use Rattle.demands.proofs.Runs.{in-run}
-use Rattle.demands.proofs.Named.{names-parity}
+use Rattle.demands.proofs.Named.{names-parity, parity-named}
 use Rattle.demands.proofs.Tables.{encode-table, mend-table, plan-table, fold-table, spans-table, read-table, write-table}
 
 -- ---- Demand 1
@@ -440,9 +441,12 @@ module _ (k r t l f : ℕ) (zss : List (List ℕ)) (planned : PlanRefuses k r t 
   demand-3-parity codewords ps room v ps′ p =
       let q = folded ps v ps′ (λ x h. codewords x h .long) room p in (q .0, q .1 ∙ folded-parity old f zss (sym planned) codewords)
 
-  -- One stripe disagrees with its own parity in a byte that the plan names, and all others are codewords: the wide stripe is no codeword.
+  -- One stripe disagrees with its own parity in a byte that the plan names, and every other agrees with its own in all parity bytes that the plan
+  -- names: the wide stripe is no codeword.
   pub demand-3-stale-shows : ((x : ℕ) → x < n → length (getD zss x []) ≡ stripeLength old)
-      → (x : ℕ) → Bytes (getD zss x []) → ((y : ℕ) → y < n → (y ≡ x → ⊥) → Codeword old (getD zss y []))
+      → (x : ℕ) → Bytes (getD zss x [])
+      → ((y : ℕ) → y < n → (y ≡ x → ⊥) → (i p : ℕ) → Names old n f y (k + i) p
+      → getD (getD zss y []) ((k + i) * l + p) 0 ≡ parityByte old (dataOf old (getD zss y [])) i p)
       → (i p : ℕ) → Names old n f x (k + i) p
       → (getD (getD zss x []) ((k + i) * l + p) 0 ≡ parityByte old (dataOf old (getD zss x [])) i p → ⊥)
       → (ps : List ℕ) → length ps ≡ f * l → (v : ℕ) (ps′ : List ℕ) → Folds k r t l n f named ps v ps′
@@ -450,8 +454,26 @@ module _ (k r t l f : ℕ) (zss : List (List ℕ)) (planned : PlanRefuses k r t 
   unfolding wideStripe disagreement
   demand-3-stale-shows long x bytes others i p names wrong ps room v ps′ q w =
       let at = names-parity old n f x i p names in
-      one-shows old f zss (sym planned) long x (at .0) bytes others i p (at .1 .0) (at .1 .1)
+      one-shows old f zss (sym planned) long x (at .0) bytes
+      (λ y h ne j o hj ho.
+      ap (λ (b : ℕ). b ⊕ parityByte old (dataOf old (getD zss y [])) j o) (others y h ne j o (parity-named old n f y j o (sym planned) h hj ho))
+      ∙ add-self (parityByte old (dataOf old (getD zss y [])) j o))
+      i p (at .1 .0) (at .1 .1)
       (λ e. wrong (sum-zero _ _ e)) (subst (λ (qs : List ℕ). Codeword wide (wideData old zss ++ qs)) (folded ps v ps′ long room q .1) w)
+
+  -- So too where all others are codewords.
+  pub demand-3-stale-shows-codewords : ((x : ℕ) → x < n → length (getD zss x []) ≡ stripeLength old)
+      → (x : ℕ) → Bytes (getD zss x []) → ((y : ℕ) → y < n → (y ≡ x → ⊥) → Codeword old (getD zss y []))
+      → (i p : ℕ) → Names old n f x (k + i) p
+      → (getD (getD zss x []) ((k + i) * l + p) 0 ≡ parityByte old (dataOf old (getD zss x [])) i p → ⊥)
+      → (ps : List ℕ) → length ps ≡ f * l → (v : ℕ) (ps′ : List ℕ) → Folds k r t l n f named ps v ps′
+      → Codeword wide (wideData old zss ++ ps′) → ⊥
+  demand-3-stale-shows-codewords long x bytes others =
+      demand-3-stale-shows long x bytes
+      (λ y h ne j o names.
+      let at = names-parity old n f y j o names in
+      codeword-checks old (getD zss y []) (others y h ne) j o
+      (omega (arith, at .1 .0, named-few old f (foldable old n f (sym planned) .kinds))) (at .1 .1))
 
   -- The volume reported is the length of what the fold is handed, and the summed length of the plan's spans.
   pub demand-3-volume : ((x : ℕ) → x < n → length (getD zss x []) ≡ stripeLength old) → (v : ℕ) → PlanBytes k r t l n f v

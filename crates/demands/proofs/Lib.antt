@@ -5,3 +5,4 @@ pub mod Answers
 pub mod Mended
 pub mod Runs
 pub mod Demands
+pub mod Stale

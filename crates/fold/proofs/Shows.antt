@@ -97,15 +97,29 @@ module _ (s : Shape) (a : Allowed s) (h : Prepared s) where
 
 -- ---- all kinds
 
+-- what holds of 0 and of the disagreement in every parity byte that the plan names holds of what is carried on
+carried-named : (s : Shape) (f : ℕ) (zs : List ℕ) (P : ℕ → Type 0) → Allowed s → IsA s f ⊎ (IsB s f ⊎ IsC s f) → P 0
+    → ((i p : ℕ) → i < parityNamed (kindOf s f) s f → p < s .l → P (disagreement s zs i p))
+    → (j p : ℕ) → j < f → p < s .l → P (carried (kindOf s f) s zs j p)
+unfolding carried parityNamed
+carried-named s f zs P a (inl h) none d j p hj hp =
+    subst (λ (κ : Kind). P (carried κ s zs j p)) (sym (h .kind)) (d j p (subst (λ (κ : Kind). j < parityNamed κ s f) (sym (h .kind)) hj) hp)
+carried-named s f zs P a (inr (inl h)) none d j p hj hp =
+    subst (λ (κ : Kind). P (carried κ s zs j p)) (sym (h .kind))
+    (run-from s a (h .prepared) zs P none (λ i x hi hx. d i x (subst (λ (κ : Kind). i < parityNamed κ s f) (sym (h .kind)) hi) hx) j p
+    (subst (λ (x : ℕ). j < x) (sym (h .marked)) hj) hp)
+carried-named s f zs P a (inr (inr h)) none d j p hj hp = subst (λ (κ : Kind). P (carried κ s zs j p)) (sym (h .kind)) none
+
+-- the parity columns that the plan names are among the stripe's
+pub named-few : (s : Shape) (f : ℕ) → IsA s f ⊎ (IsB s f ⊎ IsC s f) → parityNamed (kindOf s f) s f ≤ s .r
+unfolding parityNamed
+named-few s f (inl h) = subst (λ (κ : Kind). parityNamed κ s f ≤ s .r) (sym (h .kind)) (h .enough)
+named-few s f (inr (inl h)) = subst (λ (κ : Kind). parityNamed κ s f ≤ s .r) (sym (h .kind)) (omega arith)
+named-few s f (inr (inr h)) = subst (λ (κ : Kind). parityNamed κ s f ≤ s .r) (sym (h .kind)) (omega arith)
+
 carried-from : (s : Shape) (f : ℕ) (zs : List ℕ) (P : ℕ → Type 0) → Allowed s → IsA s f ⊎ (IsB s f ⊎ IsC s f) → P 0
     → ((i p : ℕ) → i < s .r → p < s .l → P (disagreement s zs i p)) → (j p : ℕ) → j < f → p < s .l → P (carried (kindOf s f) s zs j p)
-unfolding carried
-carried-from s f zs P a (inl h) none d j p hj hp =
-    let k : f ≤ s .r = h .enough in subst (λ (κ : Kind). P (carried κ s zs j p)) (sym (h .kind)) (d j p (omega arith) hp)
-carried-from s f zs P a (inr (inl h)) none d j p hj hp =
-    subst (λ (κ : Kind). P (carried κ s zs j p)) (sym (h .kind))
-    (run-from s a (h .prepared) zs P none d j p (subst (λ (x : ℕ). j < x) (sym (h .marked)) hj) hp)
-carried-from s f zs P a (inr (inr h)) none d j p hj hp = subst (λ (κ : Kind). P (carried κ s zs j p)) (sym (h .kind)) none
+carried-from s f zs P a h none d = carried-named s f zs P a h none (λ i p hi hp. d i p (omega (arith, named-few s f h)) hp)
 
 carried-onto : (s : Shape) (f : ℕ) (zs : List ℕ) → Allowed s → IsA s f ⊎ (IsB s f ⊎ IsC s f)
     → ((j p : ℕ) → j < f → p < s .l → carried (kindOf s f) s zs j p ≡ 0)
@@ -186,17 +200,18 @@ module _ (s : Shape) (f : ℕ) (zss : List (List ℕ)) (passed : foldRefusal s (
       wide-long : length (wideStripe s (length zss) f zss) ≡ stripeLength (wideShape s (length zss) f)
       wide-long = wide-length s f zss passed long
 
--- If all stripes but stripe n are codewords and the wide stripe is one, stripe n agrees with its own parity in every byte that the plan names.
+-- If all stripes but stripe n agree with their own parity in every byte that the plan names, and the wide stripe is a codeword, stripe n
+-- agrees so too.
 module _ (s : Shape) (f : ℕ) (zss : List (List ℕ)) (passed : foldRefusal s (length zss) f ≡ 0)
     (long : (l : ℕ) → l < length zss → length (getD zss l []) ≡ stripeLength s) (n : ℕ) (is : n < length zss) (bytes : Bytes (getD zss n []))
-    (others : (l : ℕ) → l < length zss → (l ≡ n → ⊥) → Codeword s (getD zss l [])) where
+    (others : (l : ℕ) → l < length zss → (l ≡ n → ⊥) → (i p : ℕ) → i < parityNamed (kindOf s f) s f → p < s .l
+    → disagreement s (getD zss l []) i p ≡ 0) where
   able-too : Foldable s (length zss) f
   able-too = foldable s (length zss) f passed
 
   others-none : (j p : ℕ) → j < f → p < s .l → (l : ℕ) → l < length zss → (l ≡ n → ⊥) → carried (kindOf s f) s (getD zss l []) j p ≡ 0
   others-none j p hj hp l h ne =
-      carried-from s f (getD zss l []) (λ (x : ℕ). x ≡ 0) (able-too .shape) (able-too .kinds) refl
-      (λ i x hi hx. codeword-agrees s (getD zss l []) i x (others l h ne) hi hx) j p hj hp
+      carried-named s f (getD zss l []) (λ (x : ℕ). x ≡ 0) (able-too .shape) (able-too .kinds) refl (others l h ne) j p hj hp
 
   carried-lt : (j p : ℕ) → j < f → p < s .l → carried (kindOf s f) s (getD zss n []) j p < 256
   carried-lt =
@@ -218,7 +233,7 @@ module _ (s : Shape) (f : ℕ) (zss : List (List ℕ)) (passed : foldRefusal s (
       product-zero (gpow (n * (j * s .k))) _ (gpow-lt (n * (j * s .k))) (gpow-pos (n * (j * s .k))) (carried-lt j p hj hp)
       (sym (one-disagreement j p hj hp) ∙ codeword-agrees (wideShape s (length zss) f) (wideStripe s (length zss) f zss) j p w hj hp))
 
-  -- So if exactly one stripe disagrees with its own parity, in a byte that the plan names, the wide stripe is no codeword.
+  -- So if exactly one stripe disagrees with its own parity in bytes that the plan names, the wide stripe is no codeword.
   pub one-shows : (i p : ℕ) → i < parityNamed (kindOf s f) s f → p < s .l → (disagreement s (getD zss n []) i p ≡ 0 → ⊥)
       → Codeword (wideShape s (length zss) f) (wideStripe s (length zss) f zss) → ⊥
   one-shows i p hi hp wrong w = wrong (one-agrees w i p hi hp)

@@ -24,7 +24,7 @@ use Rattle.coding.specs.Encode.{encoded}
 use Rattle.lost.specs.Positions.{positions}
 use Rattle.mending.specs.Mend.{mendRefusal}
 use Rattle.plan.specs.declared.Span.{Span}
-use Rattle.plan.specs.Plan.{foldRefusal, columnsRead, bytesRead, plan, summed, wideShape}
+use Rattle.plan.specs.Plan.{foldRefusal, columnsRead, bytesRead, conversionBandwidth, plan, summed, wideShape}
 use Rattle.plan.specs.Cost.{columnsNeeded, bandwidthNeeded}
 use Rattle.fold.specs.Fold.{foldOf, foldVerdict, foldFilled, cutOut, wideData, wideStripe, disagreement}
 use Rattle.record.specs.declared.read.Got.{Got}
@@ -45,7 +45,7 @@ use Rattle.stripe.proofs.Completed.{completed}
 use Rattle.stripe.proofs.Lent.{lent, column-empty, column-refused, column-past}
 use Rattle.mending.proofs.Outcome.{mended-one, counts-for-nothing}
 use Rattle.plan.proofs.Foldable.{IsA, IsB, IsC, foldable}
-use Rattle.plan.proofs.Counted.{bytes-counted}
+use Rattle.plan.proofs.Counted.{columns-counted, bytes-counted}
 use Rattle.plan.proofs.Costs.{plain-columns, plain-bytes, prepared-bytes}
 use Rattle.fold.proofs.Cut.{cut-length}
 use Rattle.fold.proofs.Shows.{named-few, folded-parity, one-shows}
@@ -480,6 +480,10 @@ module _ (k r t l f : ℕ) (zss : List (List ℕ)) (planned : PlanRefuses k r t 
       → (v ≡ length named) × (v ≡ summed (plan old n f))
   demand-3-volume long v p = (p ∙ sym (cut-length old f zss (sym planned) long), p ∙ sym (bytes-counted old n f))
 
+-- The columns reported are the spans of the plan: one span per column read.
+pub demand-3-columns : (k r t l n f v : ℕ) → PlanColumns k r t l n f v → v ≡ length (plan (shapeOf k r t l) n f)
+demand-3-columns k r t l n f v p = p ∙ sym (columns-counted (shapeOf k r t l) n f)
+
 -- The published cost. Plain stripes: 003, Theorem 12, in columns, and L bytes to a column.
 pub demand-3-cost-plain : (k r l n f : ℕ) → PlanRefuses k r 0 l n f 0 → (v w : ℕ) → PlanColumns k r 0 l n f v → PlanBytes k r 0 l n f w
     → (v ≡ columnsNeeded n k r f) × (w ≡ columnsNeeded n k r f * l)
@@ -495,3 +499,11 @@ demand-3-cost-prepared k r t l n f planned prepared w q = go (foldable (shapeOf 
     go (inl a) = absurd (prepared (a .plain))
     go (inr (inl b)) = ap (λ (x : ℕ). x * f) q ∙ prepared-bytes (shapeOf k r t l) n f (sym planned) b
     go (inr (inr c)) = absurd (prepared (c .plain))
+
+-- The conversion bandwidth is the bytes read, which are reported, and so it is the published cost: of plain stripes and of prepared ones.
+pub demand-3-bandwidth : (k r t l n f : ℕ) → PlanRefuses k r t l n f 0 → (w : ℕ) → PlanBytes k r t l n f w
+    → (conversionBandwidth (shapeOf k r t l) n f ≡ w)
+    × ((t ≡ 0 → conversionBandwidth (shapeOf k r t l) n f ≡ columnsNeeded n k r f * l)
+    × ((t ≡ 0 → ⊥) → conversionBandwidth (shapeOf k r t l) n f * f ≡ bandwidthNeeded n k r f * l))
+demand-3-bandwidth k r t l n f planned w q =
+    (sym q, (λ e. plain-bytes (shapeOf k r t l) n f (sym planned) e, λ ne. demand-3-cost-prepared k r t l n f planned ne _ refl))

@@ -6,3 +6,4 @@ pub mod Mended
 pub mod Runs
 pub mod Demands
 pub mod Stale
+pub mod Worked

@@ -1,5 +1,5 @@
 // Runs the worked examples of document 01 through the library and prints what it answers; `stdout` has what the document says.
-// The starred ones are also a theorem over the definitions (specs/Worked.antt). The stripes with t=3 stand for what the document's
+// The starred ones are also a theorem over the definitions (crate `demands`). The stripes with t=3 stand for what the document's
 // own examples can't show, a piggyback that is always taken from run 0; their bytes come from the second program.
 use checking::Wrong;
 use checking::first_wrong;

@@ -1,9 +1,10 @@
 -- All starred examples hold: most by computing both sides from the definitions; that no codeword agrees with the stale stripe's
 -- survivors, since the only stripe that could, the mended one, has another last byte.
 use mathlib.Core.Path.{_≡_, refl}
-use mathlib.Core.Bool.{Bool, true, false, _&&_}
+use mathlib.Core.Bool.{Bool, true, false, true≢false, _&&_}
+use mathlib.Core.Logic.{inl, inr}
 use mathlib.Core.List.{List, [], _∷_}
-use Prim.Native.Nat.{ℕ, zero, suc}
+use Prim.Native.Nat.{ℕ, zero, suc, _+_, _*_, _<_}
 use native.Mathlib.Omega.{arith}
 use lib.Dec.{T, ltb, ltb→lt, lit<, lit≤}
 use lib.ListN.{getD}
@@ -19,12 +20,13 @@ use Rattle.stripe.proofs.Errors.{points, errors, mended, patched}
 use Rattle.stripe.proofs.Word.{wordErrors, wordMended}
 use Rattle.stripe.proofs.Mended.{wordBelow, wanted, wordAt, dataMended, stripeMended}
 use Rattle.stripe.proofs.Determined.{mendable}
-use Rattle.stripe.proofs.Completed.{completed}
+use Rattle.lost.specs.Positions.{positions, ascending, listRefusal}
+use Rattle.mending.specs.Mend.{mendRefusal, Restored, Mended}
 use Rattle.plan.specs.Plan.{foldRefusal, kindOf, columnSpans, kindSpans, spansFrom, plan, columnsEach, bytesEach, columnsRead, bytesRead}
 use Rattle.fold.specs.Fold.{readParity, readRow, runShare, share, foldByte, foldStripes, parts, foldOf, named, cutOut}
 use Rattle.number.specs.Number.{groups, groupsAt}
 use Rattle.record.specs.Reading.{firstOf, headRefusal, contentRefusal, positionsRefusal, afterPositions, stripeRefusal, readRefusal}
-use Rattle.worked.specs.Worked.{shape, stale, Holds, AllHold, worked}
+use Rattle.demands.specs.Worked.{shape, stale, accepted, Holds, AllHold, worked}
 
 small : List ℕ → Bool
 small [] = true
@@ -48,10 +50,6 @@ lost-one : Ascending 0 6 (0 ∷ [])
 unfolding Ascending
 lost-one = (lit≤ tt, lit< tt, tt)
 
-lost-two : Ascending 0 6 (0 ∷ 3 ∷ [])
-unfolding Ascending
-lost-two = (lit≤ tt, lit< tt, (lit≤ tt, lit< tt, tt))
-
 shape-allowed : shapeRefusal (shape 4 2 0 1) ≡ 0
 unfolding shapeRefusal
 shape-allowed = refl
@@ -69,8 +67,41 @@ stale-disagrees ys u v =
     let e : 0x29 ≡ getD (stripeMended (shape 4 2 0 1) (0 ∷ []) stale) 5 0 = agree 5 0 (lit< tt) (lit< tt) refl in
     omega (arith, e, stale-mended)
 
-stale-mends : (ys : List ℕ) × (Codeword (shape 4 2 0 1) ys × Agree (shape 4 2 0 1) (0 ∷ 3 ∷ []) stale ys)
-stale-mends = completed (shape 4 2 0 1) shape-allowed (0 ∷ 3 ∷ []) lost-two refl stale stale-bytes refl
+-- position 0 lost: refused 8, and the bytes stay
+stale-refused : Mended (shape 4 2 0 1) (0 ∷ 0 ∷ []) stale 8 stale
+unfolding mendRefusal shapeRefusal listRefusal ascending positions
+stale-refused =
+    record {
+      refused = λ n. absurd (n refl);
+      judged = λ z. inr (refl, (refl, λ zs w. stale-disagrees zs (w .codeword) (w .agrees)));
+    }
+
+accepted-codeword : Codeword (shape 4 2 0 1) accepted
+unfolding small parity parityByte piggyback runLength rowAt across tabulate row rowFrom gpow power _⊗_ shifted doubled _⊕_
+accepted-codeword = record { bytes = bytes accepted tt; long = refl; exact = refl }
+
+accepted-agrees : Agree (shape 4 2 0 1) (0 ∷ 3 ∷ []) stale accepted
+unfolding among
+accepted-agrees c zero hc hp out = column c hc out
+  where
+    column : (c : ℕ) → c < 6 → among c (0 ∷ 3 ∷ []) ≡ false → getD stale (c * 1 + 0) 0 ≡ getD accepted (c * 1 + 0) 0
+    column zero h out = absurd (true≢false out)
+    column (suc zero) h out = refl
+    column (suc (suc zero)) h out = refl
+    column (suc (suc (suc zero))) h out = absurd (true≢false out)
+    column (suc (suc (suc (suc zero)))) h out = refl
+    column (suc (suc (suc (suc (suc zero))))) h out = refl
+    column (suc (suc (suc (suc (suc (suc c)))))) h out = absurd (omega arith)
+accepted-agrees c (suc p) hc hp out = absurd (omega arith)
+
+-- positions 0 and 3 lost: mended
+stale-accepted : Mended (shape 4 2 0 1) (0 ∷ 0 ∷ 3 ∷ 0 ∷ []) stale 0 accepted
+unfolding mendRefusal shapeRefusal listRefusal ascending positions
+stale-accepted =
+    record {
+      refused = λ n. absurd (n refl);
+      judged = λ z. inl (refl, record { codeword = accepted-codeword; agrees = accepted-agrees });
+    }
 
 pub worked-hold : AllHold worked
 unfolding worked AllHold Holds _⊗_ shifted doubled _⊕_ gpow power parity parityByte piggyback runLength rowAt across tabulate row rowFrom groups
@@ -92,7 +123,7 @@ worked-hold = (
               (refl, refl, refl),
               (
                 (refl, refl, refl),
-                ((refl, refl, refl), (stale-disagrees, (stale-mends, (refl, (refl, (refl, tt)))))),
+                ((refl, refl, refl), (stale-refused, (stale-accepted, (refl, (refl, (refl, tt)))))),
               ),
             ),
           ),

@@ -5,7 +5,8 @@ use Prim.Native.Nat.{ℕ}
 use lib.ListN.{length}
 use Rattle.field.specs.Field.{_⊗_, gpow}
 use Rattle.stripe.specs.declared.Shape.{Shape}
-use Rattle.stripe.specs.Stripe.{parity, Codeword, Agree}
+use Rattle.stripe.specs.Stripe.{parity}
+use Rattle.mending.specs.Mend.{Mended}
 use Rattle.plan.specs.Plan.{plan, columnsRead, bytesRead}
 use Rattle.fold.specs.Fold.{foldOf, cutOut}
 use Rattle.number.specs.Number.{written}
@@ -24,10 +25,8 @@ pub data Case : Type 0 where
   Parity : Shape → List ℕ → List ℕ → Case
   -- whole stripes folded to f parity columns, the wide parity, and how many bytes and columns the plan reads
   Fold : Shape → ℕ → List (List ℕ) → List ℕ → ℕ → ℕ → Case
-  -- a stripe with these positions lost: some codeword agrees with all survivors
-  Mends : Shape → List ℕ → List ℕ → Case
-  -- and none does
-  Disagrees : Shape → List ℕ → List ℕ → Case
+  -- the lost positions of a stripe, as pairs of bytes, and the stripe; the answer of mending, and the bytes that are left
+  Mend : Shape → List ℕ → List ℕ → ℕ → List ℕ → Case
   -- a number of a record, and its bytes
   Written : ℕ → List ℕ → Case
   -- the bytes of a record, and their refusal by reading
@@ -41,8 +40,7 @@ Holds (Fold s f zss ps b c) =
     (foldOf s (length zss) f (cutOut s zss (plan s (length zss) f)) ≡ ps)
     × (bytesRead s (length zss) f ≡ b)
     × (columnsRead s (length zss) f ≡ c)
-Holds (Mends s es xs) = (ys : List ℕ) × (Codeword s ys × Agree s es xs ys)
-Holds (Disagrees s es xs) = (ys : List ℕ) → Codeword s ys → Agree s es xs ys → ⊥
+Holds (Mend s ls xs v ys) = Mended s ls xs v ys
 Holds (Written n xs) = written n ≡ xs
 Holds (Read xs v) = readRefusal xs 65536 258 ≡ v
 
@@ -57,9 +55,12 @@ pair = (0x01 ∷ 0x02 ∷ 0x03 ∷ 0x05 ∷ 0x09 ∷ []) ∷ (0x03 ∷ 0x04 ∷ 
 abbrev pub preparedPair : List (List ℕ)
 preparedPair = (0x01 ∷ 0x03 ∷ 0x02 ∷ 0x04 ∷ 0x03 ∷ 0x02 ∷ []) ∷ (0x05 ∷ 0x07 ∷ 0x06 ∷ 0x08 ∷ 0x03 ∷ 0x06 ∷ []) ∷ []
 
--- a stripe with a stale column 1
+-- a stripe with a stale column 1, and what it is mended to where positions 0 and 3 are lost
 abbrev pub stale : List ℕ
 stale = 0x05 ∷ 0x06 ∷ 0x03 ∷ 0x04 ∷ 0x04 ∷ 0x29 ∷ []
+
+abbrev pub accepted : List ℕ
+accepted = 0xD7 ∷ 0x06 ∷ 0x03 ∷ 0xD6 ∷ 0x04 ∷ 0x29 ∷ []
 
 unfoldable pub worked : List Case
 worked =
@@ -72,8 +73,8 @@ worked =
     ∷ Fold (shape 2 3 0 1) 2 pair (0x04 ∷ 0x29 ∷ []) 4 4
     ∷ Fold (shape 2 3 0 1) 3 pair (0x04 ∷ 0x29 ∷ 0x24 ∷ []) 4 4
     ∷ Fold (shape 2 1 2 2) 2 preparedPair (0x00 ∷ 0x08 ∷ 0x21 ∷ 0x57 ∷ []) 8 6
-    ∷ Disagrees (shape 4 2 0 1) (0 ∷ []) stale
-    ∷ Mends (shape 4 2 0 1) (0 ∷ 3 ∷ []) stale
+    ∷ Mend (shape 4 2 0 1) (0 ∷ 0 ∷ []) stale 8 stale
+    ∷ Mend (shape 4 2 0 1) (0 ∷ 0 ∷ 3 ∷ 0 ∷ []) stale 0 accepted
     ∷ Written 300 (0xAC ∷ 0x02 ∷ [])
     ∷ Read (0x80 ∷ 0x00 ∷ []) 9
     ∷ Read [] 9

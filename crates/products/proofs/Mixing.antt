@@ -241,14 +241,9 @@ pub within-done : {f : ℕ → ℕ → ℕ} {a b q : ℕ} {xs zs : List ℕ} (n 
 within-done {f} {a} {b} {q} {xs} {zs} n h e t = within-same (subst (λ (m : ℕ). Within f a b m xs zs) e t) (within-places f a b n xs h)
 
 -- by the factor 1 the bytes are taken as they are
-pub within-one : (a b n c : ℕ) (xs : List ℕ) → c ≡ 1 → Bytes xs → Apart a b n (length xs)
-    → within (λ (x y : ℕ). x ⊕ y) a b n xs ≡ within (λ (x y : ℕ). x ⊕ c ⊗ y) a b n xs
-within-one a b n c xs ec bytes h =
-    within-same record { long = w .long; on = λ q l. w .on q l ∙ by-one (getD xs (a + q) 0) (getD xs (b + q) 0) (bytes (b + q)); off = w .off }
-    (within-places (λ (x y : ℕ). x ⊕ c ⊗ y) a b n xs h)
+pub within-one : {a b n c : ℕ} {xs ys : List ℕ} → c ≡ 1 → Bytes xs → Within (λ (x y : ℕ). x ⊕ y) a b n xs ys
+    → Within (λ (x y : ℕ). x ⊕ c ⊗ y) a b n xs ys
+within-one {a} {b} {n} {c} {xs} {ys} ec bytes w = record { long = w .long; on = λ q l. w .on q l ∙ by-one _ _ (bytes (b + q)); off = w .off }
   where
-    w : Within (λ (x y : ℕ). x ⊕ y) a b n xs (within (λ (x y : ℕ). x ⊕ y) a b n xs)
-    w = within-places (λ (x y : ℕ). x ⊕ y) a b n xs h
-
     by-one : (x y : ℕ) → y < 256 → x ⊕ y ≡ x ⊕ c ⊗ y
     by-one x y k = sym (ap (λ (z : ℕ). x ⊕ z ⊗ y) ec ∙ ap (λ (z : ℕ). x ⊕ z) (one-mul y k))

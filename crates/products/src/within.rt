@@ -16,11 +16,30 @@ pub fn mix(a: &mut [u8], to: usize, from: usize, n: usize, c: u8)
     if !are_apart(to, from, n, a.len()) {
         return;
     }
+    let mut q = 0;
+    while 64 <= n - q {
+        mix_part(a, to + q, from + q, 64, c);
+        q += 64;
+    }
+    if q < n {
+        mix_part(a, to + q, from + q, n - q, c);
+    }
+}
+
+// The same of at most 64 bytes, which are there and apart; by 1 they are taken as they are.
+fn mix_part(a: &mut [u8], to: usize, from: usize, n: usize, c: u8)
+    requires { ⌜ (apart to from n (length (now a)) ≡ true) × (n ≤ 64) ⌝ }
+    ensures { λ _. ⌜ now (a .exit) ≡ within (λ (x y : ℕ). x ⊕ c ⊗ y) to from n (now (a .entry)) ⌝ }
+{
+    let mut t = [0u8; 64];
+    let e = from + n;
+    copy(&mut t, &a[from..e]);
+    let f = to + n;
     if c == 1 {
-        add_within(a, to, from, n);
+        add(&mut a[to..f], &t);
         return;
     }
-    scale_within(a, to, from, n, c);
+    scale_add(&mut a[to..f], c, &t);
 }
 
 // Whether the n places from `to` on and those from `from` on are all of len, and apart.
@@ -41,58 +60,4 @@ fn are_apart(to: usize, from: usize, n: usize, len: usize) -> bool
         return true;
     }
     from + n <= to
-}
-
-// To the n bytes from `to` on those from `from` on.
-fn add_within(a: &mut [u8], to: usize, from: usize, n: usize)
-    requires { ⌜ apart to from n (length (now a)) ≡ true ⌝ }
-    ensures { λ _. ⌜ now (a .exit) ≡ within (λ (x y : ℕ). x ⊕ y) to from n (now (a .entry)) ⌝ }
-{
-    let mut q = 0;
-    while 64 <= n - q {
-        add_part(a, to + q, from + q, 64);
-        q += 64;
-    }
-    if q < n {
-        add_part(a, to + q, from + q, n - q);
-    }
-}
-
-// The same of at most 64 bytes.
-fn add_part(a: &mut [u8], to: usize, from: usize, n: usize)
-    requires { ⌜ (apart to from n (length (now a)) ≡ true) × (n ≤ 64) ⌝ }
-    ensures { λ _. ⌜ now (a .exit) ≡ within (λ (x y : ℕ). x ⊕ y) to from n (now (a .entry)) ⌝ }
-{
-    let mut t = [0u8; 64];
-    let e = from + n;
-    copy(&mut t, &a[from..e]);
-    let f = to + n;
-    add(&mut a[to..f], &t);
-}
-
-// To the n bytes from `to` on c times those from `from` on.
-fn scale_within(a: &mut [u8], to: usize, from: usize, n: usize, c: u8)
-    requires { ⌜ apart to from n (length (now a)) ≡ true ⌝ }
-    ensures { λ _. ⌜ now (a .exit) ≡ within (λ (x y : ℕ). x ⊕ c ⊗ y) to from n (now (a .entry)) ⌝ }
-{
-    let mut q = 0;
-    while 64 <= n - q {
-        scale_part(a, to + q, from + q, 64, c);
-        q += 64;
-    }
-    if q < n {
-        scale_part(a, to + q, from + q, n - q, c);
-    }
-}
-
-// The same of at most 64 bytes.
-fn scale_part(a: &mut [u8], to: usize, from: usize, n: usize, c: u8)
-    requires { ⌜ (apart to from n (length (now a)) ≡ true) × (n ≤ 64) ⌝ }
-    ensures { λ _. ⌜ now (a .exit) ≡ within (λ (x y : ℕ). x ⊕ c ⊗ y) to from n (now (a .entry)) ⌝ }
-{
-    let mut t = [0u8; 64];
-    let e = from + n;
-    copy(&mut t, &a[from..e]);
-    let f = to + n;
-    scale_add(&mut a[to..f], c, &t);
 }

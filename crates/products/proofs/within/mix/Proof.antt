@@ -1,48 +1,110 @@
--- `mix` meets its contract: nothing is written, or the bytes as they are, or c times the bytes.
+-- `mix` meets its contract: nothing is written, or after each turn the q first places are done.
+use Prim.Native.Nat.{ℕ, _+_, _-_, _≤_}
 use mathlib.Core.Path.{sym, _∙_}
+use native.Mathlib.Omega.{arith}
 use borrow.Author.Needs.{needs}
 use borrow.Author.Tests.{not-true, not-false}
-use Rattle.products.proofs.Mixing.{apart-is, within-nothing, within-one}
+use lib.ListN.{length}
+use Rattle.field.specs.Field.{_⊕_, _⊗_}
+use Rattle.products.proofs.Mixing.{Apart, Within, apart-is, part-ready, within-nothing, within-start, within-part, within-done}
 use Rattle.products.proofs.within.mix.Statement.{statement}
 use Rattle.products.proofs.within.mix.Tie as tie
 
-are-apart-requires : tie.Need-are-apart-requires
+abbrev Inv-loop : tie.InvT-loop
+Inv-loop a₀ to from n c q₀ a q = (q ≤ n) × (Apart to from n (length a₀) × Within (λ (x y : ℕ). x ⊕ c ⊗ y) to from q a₀ a)
+
+abbrev μ-loop : tie.MeasureT-loop
+μ-loop a₀ to from n c q₀ a q = n - q
+
+are-apart-requires : tie.Need-are-apart-requires Inv-loop μ-loop
 are-apart-requires c κs = search needs
 
-returns : tie.Need-returns
+returns : tie.Need-returns Inv-loop μ-loop
 returns c = sym (within-nothing _ _ _ _ _ (sym (c .before .are-apart .ensures) ∙ not-true _ (c .if1 .taken)))
 
-add-within-requires : tie.Need-add-within-requires
-add-within-requires c κs = sym (c .before .before .before .are-apart .ensures) ∙ not-false _ (c .before .before .if1 .left)
+loop-holds : tie.Need-loop-holds Inv-loop μ-loop
+loop-holds c = (search needs, (apart-is (sym (c .before .are-apart .ensures) ∙ not-false _ (c .if1 .left)), within-start _ _ _ _))
 
-same-length : tie.Need-same-length
+sub-loop : tie.Need-sub-loop Inv-loop μ-loop
+sub-loop c = c .loop .inv .0
+
+add-mix-part : tie.Need-add-mix-part Inv-loop μ-loop
+add-mix-part c = let l = c .before .before .loop in omega (arith, l .inv .1 .0 .first, l .inv .0)
+
+add-mix-part-2 : tie.Need-add-mix-part-2 Inv-loop μ-loop
+add-mix-part-2 c = let l = c .before .before .loop in omega (arith, l .inv .1 .0 .second, l .inv .0)
+
+mix-part-requires : tie.Need-mix-part-requires Inv-loop μ-loop
+mix-part-requires c κs =
+    let l = c .before .before .loop in
+    (part-ready (l .q) _ (l .a) (l .inv .1 .0) (omega (arith, c .before .loop-test .taken, l .inv .0)) (l .inv .1 .1 .long), omega arith)
+
+add-q : tie.Need-add-q Inv-loop μ-loop
+add-q c = let l = c .before .before .before .before .before .loop in omega (arith, c .before .before .before .before .loop-test .taken, l .inv .0)
+
+loop-less : tie.Need-loop-less Inv-loop μ-loop
+loop-less c = let l = c .before .before .before .before .before .loop in omega (arith, c .before .before .before .before .loop-test .taken, l .inv .0)
+
+loop-again : tie.Need-loop-again Inv-loop μ-loop
+loop-again c =
+    let l = c .before .before .before .before .before .loop in
+    let a = c .before .before .before .before .before .before .before .before .before .args in
+    let fits : l .q + 64 ≤ a .n = omega (arith, c .before .before .before .before .loop-test .taken, l .inv .0) in
+    (fits, (l .inv .1 .0, within-part 64 (l .inv .1 .0) fits (l .inv .1 .1) (c .before .before .mix-part .ensures)))
+
+add-mix-part-3 : tie.Need-add-mix-part-3 Inv-loop μ-loop
+add-mix-part-3 c = let l = c .before .before .before .loop in omega (arith, l .inv .1 .0 .first, l .inv .0)
+
+add-mix-part-4 : tie.Need-add-mix-part-4 Inv-loop μ-loop
+add-mix-part-4 c = let l = c .before .before .before .loop in omega (arith, l .inv .1 .0 .second, l .inv .0)
+
+sub-mix-part : tie.Need-sub-mix-part Inv-loop μ-loop
+sub-mix-part c = c .before .before .before .loop .inv .0
+
+mix-part-requires-2 : tie.Need-mix-part-requires-2 Inv-loop μ-loop
+mix-part-requires-2 c κs =
+    let l = c .before .before .before .loop in
+    (part-ready (l .q) _ (l .a) (l .inv .1 .0) (omega (arith, l .inv .0)) (l .inv .1 .1 .long), omega (arith, c .before .before .loop-test .left))
+
+same-length : tie.Need-same-length Inv-loop μ-loop
 same-length c = search needs
 
-returns-2 : tie.Need-returns-2
+returns-2 : tie.Need-returns-2 Inv-loop μ-loop
 returns-2 c =
-    let a = c .before .before .before .before .before .before .before .before .args in
-    c .before .before .add-within .ensures
-    ∙ within-one (a .to) (a .from) (a .n) (a .c) (a .a .now) (c .before .before .before .before .if2 .taken) (λ i. c .before .before .before .before .before .before .before .slice-known .given i .fits)
-    (apart-is (sym (c .before .before .before .before .before .before .are-apart .ensures) ∙ not-false _ (c .before .before .before .before .before .if1 .left)))
+    let l = c .before .before .before .before .before .before .loop in
+    let h = l .inv .1 .0 in
+    let all = within-part _ h (omega (arith, l .inv .0)) (l .inv .1 .1) (c .before .before .mix-part2 .ensures) in
+    within-done _ h (omega (arith, l .inv .0)) all
 
-scale-within-requires : tie.Need-scale-within-requires
-scale-within-requires c κs = sym (c .before .before .before .are-apart .ensures) ∙ not-false _ (c .before .before .if1 .left)
+same-length-2 : tie.Need-same-length-2 Inv-loop μ-loop
+same-length-2 c = c .before .before .loop .inv .1 .1 .long
 
-same-length-2 : tie.Need-same-length-2
-same-length-2 c = search needs
-
-returns-3 : tie.Need-returns-3
-returns-3 c = c .before .before .scale-within .ensures
+returns-3 : tie.Need-returns-3 Inv-loop μ-loop
+returns-3 c =
+    let l = c .before .before .loop in
+    within-done _ (l .inv .1 .0) (omega (arith, c .if2 .left, l .inv .0)) (l .inv .1 .1)
 
 pub mix-spec : {M : Type 1} → statement M
 mix-spec =
     tie.close
     (tie.spec
+    Inv-loop
+    μ-loop
     are-apart-requires
     returns
-    add-within-requires
+    loop-holds
+    sub-loop
+    add-mix-part
+    add-mix-part-2
+    mix-part-requires
+    add-q
+    loop-less
+    loop-again
+    add-mix-part-3
+    add-mix-part-4
+    sub-mix-part
+    mix-part-requires-2
     same-length
     returns-2
-    scale-within-requires
     same-length-2
     returns-3)

@@ -4,7 +4,8 @@
  * state, takes no memory but less than 16 KiB of stack, and calls nothing but memcpy and memset, so any thread may call it.
  *
  * Numbers come as they come: none of them has to be checked before a call. A function that can refuse returns 0 (SHELF_OK), or the
- * number of a refusal, and a refusal writes nothing. Where several refusals apply, the lowest number is returned.
+ * number of a refusal, and a refusal writes nothing but what is said of it. Where several refusals apply, the lowest number is
+ * returned, unless another order is said.
  *
  * The numbers of a stripe:
  *
@@ -63,6 +64,21 @@
 extern "C" {
 #endif
 
+/* The version of this header and of the library that it came with. */
+#define SHELF_VERSION "0.2.0"
+
+/* The limits, for the sizes of a caller's buffers. */
+enum {
+    SHELF_MAX_DATA = 255,          /* k, and stripes * k */
+    SHELF_MAX_PARITY = 3,          /* r, t and f */
+    SHELF_MAX_COLUMN = 4096,       /* l, in bytes */
+    SHELF_MAX_STRIPES = 255,       /* stripes */
+    SHELF_MAX_SPANS = 425,         /* spans of a plan */
+    SHELF_RECORD_BYTES = 65536,    /* most bytes of a record, and of the stripe that it describes */
+    SHELF_RECORD_LOST = 258,       /* lost positions of a record at most: k + r */
+    SHELF_RECORD_NUMBERS = 5       /* numbers that are read of a record */
+};
+
 /* What a function returns. */
 enum {
     SHELF_OK = 0,
@@ -70,11 +86,33 @@ enum {
     SHELF_LENGTH = 2,        /* l is not allowed */
     SHELF_STRIPES = 3,       /* the number of stripes is not 2 to 255, or stripes * k is above 255 */
     SHELF_NEW_PARITY = 4,    /* f is not allowed */
-    SHELF_BUFFER = 5,        /* a buffer has another length than stated (a list of spans: is too short) */
+    SHELF_BUFFER = 5,        /* a buffer has another length than stated (a list of spans, a record's output: is too short), or a
+                                record or its stripe has more than 65,536 bytes */
     SHELF_LOST = 6,          /* lost positions do not strictly ascend, or one is not below k + r */
     SHELF_TOO_MANY_LOST = 7, /* more than r positions are lost */
-    SHELF_DISAGREES = 8      /* no codeword agrees with all columns that survive */
+    SHELF_DISAGREES = 8,     /* no codeword agrees with all columns that survive */
+    SHELF_CUT = 9,           /* a record: a number is malformed, above 2^32-1, or cut; or the columns are cut */
+    SHELF_LEFT_OVER = 10     /* a record: bytes are left over */
 };
+
+/* A short text for what a function returned, for a log. */
+static inline const char *shelf_refusal(uint32_t number)
+{
+    switch (number) {
+    case SHELF_OK: return "done";
+    case SHELF_SHAPE: return "k, r or t is not allowed";
+    case SHELF_LENGTH: return "the length of a column is not allowed";
+    case SHELF_STRIPES: return "the number of stripes is not allowed";
+    case SHELF_NEW_PARITY: return "the new parity count is not allowed";
+    case SHELF_BUFFER: return "a buffer has another length than stated, or a record is too long";
+    case SHELF_LOST: return "lost positions do not ascend, or one is no position";
+    case SHELF_TOO_MANY_LOST: return "more columns are lost than there is parity";
+    case SHELF_DISAGREES: return "no codeword agrees with all columns that survive";
+    case SHELF_CUT: return "a record's number or column is cut, or a number is malformed";
+    case SHELF_LEFT_OVER: return "bytes are left over after a record";
+    default: return "no such number";
+    }
+}
 
 /* Fills the parity columns of a stripe.
  *
@@ -107,6 +145,20 @@ uint32_t shelf_encode(uint64_t k, uint64_t r, uint64_t t, uint64_t l,
  */
 uint32_t shelf_mend(uint64_t k, uint64_t r, uint64_t t, uint64_t l,
                     uint8_t *stripe, size_t stripe_len, const uint8_t *lost, size_t lost_len);
+
+/* Checks a stripe, and says where its parity first disagrees.
+ *
+ *   k, r, t, l           the numbers of the stripe
+ *   data, data_len       the data columns in order: data_len is k * l
+ *   parity, parity_len   the parity columns in order: parity_len is r * l
+ *   column, place        where the answer 8 goes
+ *
+ * Returns 0: the stripe is a codeword. Returns 8: it is none; *column is the first parity column, from 0, that does not hold what
+ * shelf_encode writes for these data, and *place the first byte of it that differs. Returns 1, 2 or 5, in this order. *column and *place
+ * are written with 8 alone, and nothing else ever is.
+ */
+uint32_t shelf_check(uint64_t k, uint64_t r, uint64_t t, uint64_t l, const uint8_t *data, size_t data_len,
+                     const uint8_t *parity, size_t parity_len, uint32_t *column, uint32_t *place);
 
 /* The bytes that a plan reads of one column.
  *
@@ -178,6 +230,42 @@ uint32_t shelf_plan_spans(uint64_t k, uint64_t r, uint64_t t, uint64_t l, uint64
  */
 uint32_t shelf_fold(uint64_t k, uint64_t r, uint64_t t, uint64_t l, uint64_t stripes, uint64_t f,
                     const uint8_t *read, size_t read_len, uint8_t *parity, size_t parity_len);
+
+/* A record is a stripe in transit, some of its columns lost: the numbers k, r, t, l, how many columns are lost, their positions
+ * ascending, then the surviving columns whole, in order, and nothing after them. Its numbers are groups of seven bits, the lowest
+ * group first, the top bit set on all but the last byte; at most 2^32-1, in the shortest form only. It may name more than r lost
+ * columns. A record has at most 65,536 bytes, and so has its stripe. */
+
+/* Reads a record.
+ *
+ *   record, record_len     the record
+ *   stripe, stripe_len     where the stripe goes: stripe_len is 65,536 (SHELF_RECORD_BYTES)
+ *   lost, lost_len         where the lost positions go: lost_len is 258 (SHELF_RECORD_LOST)
+ *   numbers, numbers_len   where k, r, t, l and the number of lost columns go, in this order: numbers_len is 5 (SHELF_RECORD_NUMBERS)
+ *
+ * Returns 0: the surviving columns stand at their places of the stripe, column c from c * l on, and the lost positions at the front
+ * of the list; the lost columns, and the rest of both, stay as they are. The record is read front to back: returns 5 for its own
+ * length, the buffer and the two lists; then 9 for each number as it comes; after the fourth 1, 2, or 5 for more than 65,536 bytes of
+ * stripe; then 9 or 6 for the lost count and each position; then 9 where the columns are cut, 10 where bytes are left over. With any
+ * of these nothing is written.
+ */
+uint32_t shelf_read_record(const uint8_t *record, size_t record_len, uint8_t *stripe, size_t stripe_len,
+                           uint16_t *lost, size_t lost_len, uint64_t *numbers, size_t numbers_len);
+
+/* Writes a record.
+ *
+ *   k, r, t, l          the numbers of the stripe
+ *   stripe, stripe_len  all columns in order, data first: stripe_len is (k + r) * l. What the lost columns hold does not matter.
+ *   lost, lost_len      the positions of the lost columns, strictly ascending: lost_len is their number
+ *   out, out_len        where the record goes; 65,536 bytes are always enough
+ *   length              where the record's length goes
+ *
+ * Returns 0: the record stands at the front of the output, whose rest stays, and *length is its length. Returns 1, 2, 5 for a stripe
+ * above 65,536 bytes or another stripe_len, 6, or 5 for a record above 65,536 bytes or an output that is too short, in this order:
+ * nothing is written.
+ */
+uint32_t shelf_write_record(uint64_t k, uint64_t r, uint64_t t, uint64_t l, const uint8_t *stripe, size_t stripe_len,
+                            const uint16_t *lost, size_t lost_len, uint8_t *out, size_t out_len, uint64_t *length);
 
 #ifdef __cplusplus
 }

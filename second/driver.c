@@ -1,11 +1,11 @@
-/* Makes the calls that come on standard input and answers on standard output: a struct call and the bytes of its two buffers, each way.
+/* Makes the calls that come on standard input and answers on standard output: a struct call and the bytes of its buffers, each way.
  * Freestanding, as direct.c is. */
 #include "call.h"
 
 long read(int, void *, size_t);
 long write(int, const void *, size_t);
 
-static uint8_t a[MOST_BYTES], b[MOST_BYTES];
+static uint8_t bytes[LENT][MOST_BYTES];
 
 static int get(void *to, size_t len)
 {
@@ -32,12 +32,17 @@ static int put(const void *from, size_t len)
 int main(void)
 {
     struct call c;
+    uint8_t *const lent[LENT] = {bytes[0], bytes[1], bytes[2], bytes[3]};
     while (get(&c, sizeof c)) {
-        if (c.a_len > MOST_BYTES || c.b_len > MOST_BYTES || !get(a, c.a_len) || !get(b, c.b_len))
+        for (int i = 0; i < LENT; i++)
+            if (c.len[i] > MOST_BYTES || !get(lent[i], c.len[i]))
+                return 1;
+        make_call(&c, lent);
+        if (!put(&c, sizeof c))
             return 1;
-        make_call(&c, a, b);
-        if (!put(&c, sizeof c) || !put(a, c.a_len) || !put(b, c.b_len))
-            return 1;
+        for (int i = 0; i < LENT; i++)
+            if (!put(lent[i], c.len[i]))
+                return 1;
     }
     return 0;
 }

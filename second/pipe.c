@@ -15,7 +15,9 @@ static void fail(const char *why)
     fprintf(stderr, "second: the driver: %s; call %" PRIu64 " of numbers", why, current->op);
     for (int i = 0; i < 6; i++)
         fprintf(stderr, " %" PRIu64, current->num[i]);
-    fprintf(stderr, " and %" PRIu64 ", %" PRIu64 " bytes\n", current->a_len, current->b_len);
+    for (int i = 0; i < LENT; i++)
+        fprintf(stderr, "%s %" PRIu64, i == 0 ? " and buffers of" : ",", current->len[i]);
+    fprintf(stderr, " bytes\n");
     exit(2);
 }
 
@@ -49,16 +51,16 @@ static void get(void *bytes, size_t len)
         fail("it ended early");
 }
 
-void make_call(struct call *c, uint8_t *a, uint8_t *b)
+void make_call(struct call *c, uint8_t *const lent[LENT])
 {
     current = c;
     if (to == NULL)
         start();
     put(c, sizeof *c);
-    put(a, c->a_len);
-    put(b, c->b_len);
+    for (int i = 0; i < LENT; i++)
+        put(lent[i], c->len[i]);
     fflush(to);
     get(c, sizeof *c);
-    get(a, c->a_len);
-    get(b, c->b_len);
+    for (int i = 0; i < LENT; i++)
+        get(lent[i], c->len[i]);
 }

@@ -13,7 +13,7 @@ enum { BLOCK = 20 };
 
 uint64_t record_answers[11], records_alone;
 
-static uint8_t rec[1 << 18];
+uint8_t rec[1 << 18];
 
 static size_t shape_numbers(struct shape s, uint8_t *out)
 {
@@ -52,8 +52,7 @@ static size_t lost_list(struct shape s, int due, uint16_t *lost)
     return count;
 }
 
-/* A record for which this refusal is likely due; 0: none. */
-static size_t any_record(int due)
+size_t any_record(int due)
 {
     static uint8_t stripe[65536], front[64];
     static const char *const malformed[] = {"\x84\x00", "\xFF\xFF\xFF\xFF\x1F", "\x80\x80\x80\x80\x80\x01", "\xFF\xFF\xFF\xFF\xFF\x01"};

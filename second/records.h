@@ -1,7 +1,12 @@
 #ifndef SECOND_RECORDS_H
 #define SECOND_RECORDS_H
 
+#include <stddef.h>
 #include <stdint.h>
+
+/* A record, in rec, for which this refusal is likely due (0: none); its length. */
+size_t any_record(int due);
+extern uint8_t rec[1 << 18];
 
 /* Records, whole and spoilt, through the mending program: SECOND_PROGRAM of the environment starts mend, SECOND_PROGRAMS mends (all go
  * through mend where there is none). In how many blocks of records a text differs. */

@@ -1,3 +1,5 @@
+pub mod Checked
+pub mod Recorded
 pub mod Answered
 pub mod Longest
 pub mod Stored

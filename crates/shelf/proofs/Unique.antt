@@ -31,6 +31,12 @@ use Rattle.shelf.proofs.shelf_plan_columns_read.Reads as shelf-plan-col
 use Rattle.shelf.proofs.shelf_plan_bytes_read as shelf-plan-bytes-read
 use Rattle.shelf.proofs.shelf_plan_bytes_read.Reads as shelf-plan-bytes-read-reads
 use Rattle.shelf.proofs.shelf_plan_spans as shelf-plan-spans
+use Rattle.shelf.proofs.check.shelf_check as shelf-check
+use Rattle.shelf.proofs.check.shelf_check.Reads as shelf-check-reads
+use Rattle.shelf.proofs.records.shelf_read_record as shelf-read-record
+use Rattle.shelf.proofs.records.shelf_read_record.Reads as shelf-read-record-reads
+use Rattle.shelf.proofs.records.shelf_write_record as shelf-write-record
+use Rattle.shelf.proofs.records.shelf_write_record.Reads as shelf-write-record-reads
 
 pub shelf-encode-unique : (κs : Lfts 2) (a : ArgsD shelf-encode.signature κs) (r r′ : ResD shelf-encode.signature κs)
     (s s′ : AtExit shelf-encode.ended κs) → shelf-encode-reads.Post κs a r s → shelf-encode-reads.Post κs a r′ s′
@@ -58,6 +64,23 @@ pub shelf-mend-unique : (κs : Lfts 2) (a : ArgsD shelf-mend.signature κs) (r r
     (s s′ : AtExit shelf-mend.ended κs) → shelf-mend-reads.Post κs a r s → shelf-mend-reads.Post κs a r′ s′
     → (r ≡ r′) × (now (s .1 .1 .1 .1 .0) ≡ now (s′ .1 .1 .1 .1 .0))
 shelf-mend-unique κs a r r′ s s′ p q = mended-one _ _ _ r r′ _ _ p q
+
+pub shelf-check-unique : (κs : Lfts 4) (a : ArgsD shelf-check.signature κs) (r r′ : ResD shelf-check.signature κs)
+    (s s′ : AtExit shelf-check.ended κs) → shelf-check-reads.Post κs a r s → shelf-check-reads.Post κs a r′ s′
+    → (r ≡ r′) × ((now (s .1 .1 .1 .1 .1 .1 .0) ≡ now (s′ .1 .1 .1 .1 .1 .1 .0)) × (now (s .1 .1 .1 .1 .1 .1 .1 .0) ≡ now (s′ .1 .1 .1 .1 .1 .1 .1 .0)))
+shelf-check-unique κs a r r′ s s′ p q = (p .0 ∙ sym (q .0), (p .1 .0 ∙ sym (q .1 .0), p .1 .1 ∙ sym (q .1 .1)))
+
+pub shelf-read-record-unique : (κs : Lfts 4) (a : ArgsD shelf-read-record.signature κs) (r r′ : ResD shelf-read-record.signature κs)
+    (s s′ : AtExit shelf-read-record.ended κs) → shelf-read-record-reads.Post κs a r s → shelf-read-record-reads.Post κs a r′ s′
+    → (r ≡ r′)
+    × ((now (s .1 .0) ≡ now (s′ .1 .0)) × ((now (s .1 .1 .0) ≡ now (s′ .1 .1 .0)) × (now (s .1 .1 .1 .0) ≡ now (s′ .1 .1 .1 .0))))
+shelf-read-record-unique κs a r r′ s s′ p q =
+    (p .0 ∙ sym (q .0), (p .1 .0 ∙ sym (q .1 .0), (p .1 .1 .0 ∙ sym (q .1 .1 .0), p .1 .1 .1 ∙ sym (q .1 .1 .1))))
+
+pub shelf-write-record-unique : (κs : Lfts 4) (a : ArgsD shelf-write-record.signature κs) (r r′ : ResD shelf-write-record.signature κs)
+    (s s′ : AtExit shelf-write-record.ended κs) → shelf-write-record-reads.Post κs a r s → shelf-write-record-reads.Post κs a r′ s′
+    → (r ≡ r′) × ((now (s .1 .1 .1 .1 .1 .1 .0) ≡ now (s′ .1 .1 .1 .1 .1 .1 .0)) × (now (s .1 .1 .1 .1 .1 .1 .1 .0) ≡ now (s′ .1 .1 .1 .1 .1 .1 .1 .0)))
+shelf-write-record-unique κs a r r′ s s′ p q = (p .0 ∙ sym (q .0), (p .1 .0 ∙ sym (q .1 .0), p .1 .1 ∙ sym (q .1 .1)))
 
 -- the answer v and the list ys in the end, of a call for the spans of a plan with the list xs
 abbrev pub Planned : Shape → ℕ → ℕ → List Span → ℕ → List Span → Type 0

@@ -1,1 +1,3 @@
 pub mod Shelf
+pub mod Check
+pub mod Records

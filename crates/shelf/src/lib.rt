@@ -1,5 +1,8 @@
 // The calls of the shelf daemon, for C: numbers and byte slices come in, 0 or the number of a refusal goes back. `c/shelf.h`
 // documents them. Each is thin over a proved function of a crate below, and refuses bad numbers and lengths itself.
+mod check;
+mod records;
+
 use coding::encode::encode;
 use counts::bytes_read;
 use counts::columns_read;
@@ -19,7 +22,7 @@ ghost use Rattle.mending.specs.Mend.{Mended};
 ghost use Rattle.shelf.specs.Shelf.{shapeOf, spansRefusal, spansAnswer, spansFilled};
 
 // The shape of these numbers.
-fn shape_of(k: u64, r: u64, t: u64, l: u64) -> Shape
+pub(crate) fn shape_of(k: u64, r: u64, t: u64, l: u64) -> Shape
     ensures { λ v. ⌜ v ≡ shapeOf k r t l ⌝ }
 {
     Shape::new(k as usize, r as usize, t as usize, l as usize)

@@ -24,7 +24,7 @@ static const struct { const char *name; unsigned often, lines; } ops[OPS] = {
     [PLAN_BYTES] = {"plan_bytes_read", 5, BITS_PLAN},
     [PLAN_SPANS] = {"plan_spans", 10, BITS_PLAN | 1 << 5},
     [CHECK] = {"check", 10, BITS_SHAPE | 1 << 5 | 1 << 8},
-    [READ_RECORD] = {"read_record", 6, BITS_SHAPE | 1 << 5 | 1 << 6 | 1 << 9 | 1 << 10},
+    [READ_RECORD] = {"read_record", 12, BITS_SHAPE | 1 << 5 | 1 << 6 | 1 << 9 | 1 << 10},
     [WRITE_RECORD] = {"write_record", 6, BITS_SHAPE | 1 << 5 | 1 << 6},
 };
 
@@ -488,7 +488,7 @@ static void table(void)
     char what[32];
     printf("%-18s %9s %9s", "call", "calls", "accepted");
     for (int n = 1; n < LINES; n++)
-        printf("%8s%d", "ref. ", n);
+        printf("%*s%d", n < 10 ? 8 : 7, "ref. ", n);
     for (int op = 0; op < OPS; op++) {
         if (ops[op].often == 0)
             continue;
@@ -507,14 +507,14 @@ static void table(void)
     printf("\nrefusals given:");
     for (int n = 1; n < LINES; n++)
         if (holds(possible, (unsigned)n))
-            show((sprintf(what, "%d:", n), what), given[n], 1000);
+            show((sprintf(what, "%d:", n), what), given[n], n < 9 ? 1000 : 500);
     printf("\nneighbours that both hold, the first given:");
     for (int n = 1; n < LINES; n++)
         for (int m = n + 1; m < LINES; m++) {
             int neighbours = 0;
             for (int op = 0; op < OPS; op++)
                 neighbours |= op != READ_RECORD && holds(ops[op].lines, (unsigned)n) && holds(ops[op].lines, (unsigned)m) && (ops[op].lines >> (n + 1) & ((1u << (m - n - 1)) - 1)) == 0;
-            if (neighbours && n != 7)                          /* with more than r lost some codeword always agrees */
+            if (neighbours && m != 8)                          /* a stripe of another length, or with more than r lost, is not judged */
                 show((sprintf(what, "%d,%d:", n, m), what), pairs[n][m], 1000);
         }
     printf("\naccepted (r,t):");

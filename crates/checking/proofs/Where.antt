@@ -13,7 +13,7 @@ use Rattle.field.specs.Bytes.{Bytes}
 use Rattle.field.proofs.Bytes.{append-bytes}
 use Rattle.stripe.specs.declared.Shape.{Shape}
 use Rattle.checking.specs.declared.Wrong.the-variants.{Nowhere, At, Refused}
-use Rattle.stripe.specs.Shape.{shapeRefusal, dataLength, parityLength}
+use Rattle.stripe.specs.Shape.{shapeRefusal, dataLength, parityLength, mostParityLength}
 use Rattle.stripe.specs.Stripe.{parity, Codeword}
 use Rattle.stripe.specs.Column.{lentRefusal}
 use Rattle.checking.specs.Compare.{agree, firstDifference}
@@ -70,7 +70,7 @@ module _ (s : Shape) (ds ps : List ℕ) where
         go false h = absurd (suc-ne-zero 7 (ap numberOf (sym (wrong-at h) ∙ e)))
 
 -- the longest parity
-pub parity-most : (s : Shape) (d p : ℕ) → lentRefusal s d p ≡ 0 → p ≤ 12288
+pub parity-most : (s : Shape) (d p : ℕ) → lentRefusal s d p ≡ 0 → p ≤ mostParityLength
 parity-most s d p h = let k = lent s d p h in omega (arith, k .parity-long, allowed s (k .shape) .parity-length)
 
 -- ---- nowhere, exactly for a codeword

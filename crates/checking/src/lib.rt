@@ -5,6 +5,7 @@ mod compare;
 use crate::compare::first_difference;
 use crate::compare::same;
 use coding::encode::encode;
+use stripe::MOST_PARITY_LENGTH;
 use stripe::Shape;
 use stripe::column::lent_refusal;
 ghost use mathlib.Core.Path.{_≡_};
@@ -37,7 +38,7 @@ pub fn first_wrong(s: Shape, data: &[u8], parity: &[u8]) -> Wrong
         let mut middle = [0u8; 1536];
         return compared(s, data, parity, &mut middle[0..n]);
     }
-    let mut large = [0u8; 12288];
+    let mut large = [0u8; MOST_PARITY_LENGTH];
     compared(s, data, parity, &mut large[0..n])
 }
 

@@ -14,6 +14,7 @@ use Rattle.field.specs.Row.{row}
 use Rattle.field.proofs.Cases.{below-or-from}
 use Rattle.stripe.specs.declared.Shape.{Shape}
 use Rattle.stripe.specs.Stripe.{across, rowAt, runLength, parityByte}
+use Rattle.stripe.specs.Shape.{mostRows}
 use Rattle.stripe.specs.Column.{lentRefusal}
 use Rattle.rows.specs.Rows.{Added, added}
 use Rattle.rows.proofs.Fits.{Columns, Run, fit-run}
@@ -123,7 +124,7 @@ pub record Marked (s : Shape) (d n m : ℕ) : Type 0 where
   pub some : 0 < m
   pub cut : s .t * m ≡ s .l
   pub gains : s .r < s .t
-  pub most : s .t ≤ 3
+  pub most : s .t ≤ mostRows
   pub columns : Columns d (s .k) (s .l)
   pub parity-long : n ≡ s .r * s .l
 

@@ -7,7 +7,7 @@ use plan::span_count;
 use stripe::Shape;
 ghost use mathlib.Core.Path.{_≡_};
 ghost use Prim.Native.Nat.{_+_, _≤_};
-ghost use Rattle.stripe.specs.Shape.{shapeRefusal};
+ghost use Rattle.stripe.specs.Shape.{shapeRefusal, mostRows};
 ghost use Rattle.plan.specs.Plan.{kindOf, bytesEach, columnsRead, bytesRead};
 ghost use Rattle.counts.specs.Counts.{capped};
 
@@ -68,7 +68,7 @@ pub fn columns_read(s: Shape, stripes: usize, f: usize) -> Columns
 
 // How many bytes are read of each stripe.
 fn bytes_each(s: Shape, f: usize) -> usize
-    requires { ⌜ (shapeRefusal s ≡ 0) × (f ≤ 3) ⌝ }
+    requires { ⌜ (shapeRefusal s ≡ 0) × (f ≤ mostRows) ⌝ }
     ensures { λ v. ⌜ v ≡ bytesEach (kindOf s f) s f ⌝ }
 {
     let k = s.k;

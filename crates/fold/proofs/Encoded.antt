@@ -9,7 +9,7 @@ use lib.Seq.{length-take-le}
 use borrow.Author.Tests.{le-leb, eq-eqb}
 use Rattle.field.specs.Row.{row}
 use Rattle.stripe.specs.declared.Shape.{Shape}
-use Rattle.stripe.specs.Shape.{shapeRefusal}
+use Rattle.stripe.specs.Shape.{shapeRefusal, mostData, mostParity, mostLength}
 use Rattle.stripe.specs.Column.{lentRefusal}
 use Rattle.coding.specs.Encode.{encoded}
 use Rattle.stripe.specs.Stripe.{across, rowAt, parity}
@@ -43,11 +43,11 @@ module _ (s : Shape) (n f : ℕ) (passed : foldRefusal s n f ≡ 0) where
       let some : 1 ≤ n * s .k = let g : 1 ≤ n = let x = able .stripes-some in omega arith in mul-le-mul g (a .data-some) in
       simp (
         le-leb 1 (n * s .k) some,
-        le-leb (n * s .k) 255 (able .wide-most),
+        le-leb (n * s .k) mostData (able .wide-most),
         le-leb 1 f (able .new-some),
-        le-leb f 3 (able .new-most),
+        le-leb f mostParity (able .new-most),
         le-leb 1 (s .l) (a .length-some),
-        le-leb (s .l) 4096 (a .length-most),
+        le-leb (s .l) mostLength (a .length-most),
       )
 
   module _ (xs : List ℕ) (kind : kindOf s f ≡ C) (long : length xs ≡ bytesRead s n f) where

@@ -15,6 +15,7 @@ use Rattle.field.proofs.Bytes.{tabulate-length, tabulate-at}
 use Rattle.field.proofs.Cases.{below-or-from}
 use Rattle.stripe.specs.declared.Shape.{Shape}
 use Rattle.stripe.specs.Stripe.{runs, runLength}
+use Rattle.stripe.specs.Shape.{mostRows}
 use Rattle.stripe.proofs.Allowed.{Allowed, Prepared, allowed, plain-runs, prepared-runs, plain-run-length, prepared-run-length}
 use Rattle.stripe.proofs.Places.{place-lt, place-column, place-byte, place-split, place-column-lt, place-byte-lt, column-inside}
 use Rattle.lanes.proofs.Parts.{part-length, part-at, back-length, back-inside, back-outside}
@@ -271,8 +272,8 @@ module _ (s : Shape) (f : ℕ) (reads : ReadsParity s f) (first : Bool) (xs rs y
     pub row-lt : i / cut < f
     row-lt = subst (λ (x : ℕ). i / x < f) (sym cut-is) (place-column-lt i f R under-R)
 
-    pub number-lt : i % cut < 3
-    number-lt = subst (λ (x : ℕ). i % x < 3) (sym cut-is) (let g = good s f reads .runs-most in omega (arith, place-byte-lt i f R under-R))
+    pub number-lt : i % cut < mostRows
+    number-lt = subst (λ (x : ℕ). i % x < mostRows) (sym cut-is) (let g = good s f reads .runs-most in omega (arith, place-byte-lt i f R under-R))
 
     pub cut-in : (len : ℕ) → len ≡ f * s .l → i * q + q ≤ len
     cut-in len e = subst (λ (x : ℕ). i * x + x ≤ len) (sym q-is) (run-in i len under-R e)

@@ -5,7 +5,7 @@ use Prim.Native.Nat.{ℕ, _-_, _*_, _/_, _<_, _≤_}
 use native.Mathlib.Nat.{mul-le-mul}
 use native.Mathlib.Omega.{arith}
 use Rattle.stripe.specs.declared.Shape.{Shape}
-use Rattle.stripe.specs.Shape.{shapeRefusal}
+use Rattle.stripe.specs.Shape.{shapeRefusal, mostRows, mostLength}
 use Rattle.stripe.proofs.Allowed.{Prepared, allowed}
 use Rattle.plan.proofs.Bounds.{data-small, run-small, part-small}
 
@@ -18,10 +18,10 @@ module _ (s : Shape) (passed : shapeRefusal s ≡ 0) where
       go (inl e) = absurd (omega arith)
       go (inr p) = p
 
-  pub few-runs : (n : ℕ) → n ≤ 3 → n * (s .l / s .t) ≤ 12288
+  pub few-runs : (n : ℕ) → n ≤ mostRows → n * (s .l / s .t) ≤ mostRows * mostLength
   few-runs n h = mul-le-mul h (run-small s passed)
 
-  pub few-parts : (n : ℕ) → n ≤ 3 → n * ((s .t - s .r) * (s .l / s .t)) ≤ 36864
+  pub few-parts : (n : ℕ) → n ≤ mostRows → n * ((s .t - s .r) * (s .l / s .t)) ≤ mostRows * (mostRows * mostLength)
   few-parts n h = mul-le-mul h (part-small s passed)
 
   pub data-parts : s .k * ((s .t - s .r) * (s .l / s .t)) ≤ 3133440

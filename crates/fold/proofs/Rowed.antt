@@ -10,7 +10,7 @@ use lib.Seq.{length-take-le}
 use borrow.Author.Tests.{le-leb, eq-eqb}
 use Rattle.field.specs.Row.{row}
 use Rattle.stripe.specs.declared.Shape.{Shape}
-use Rattle.stripe.specs.Shape.{shapeRefusal}
+use Rattle.stripe.specs.Shape.{shapeRefusal, mostData, mostParity, mostLength}
 use Rattle.stripe.specs.Stripe.{across, rowAt, parity}
 use Rattle.stripe.specs.Column.{lentRefusal}
 use Rattle.stripe.proofs.Allowed.{Allowed, Prepared, allowed}
@@ -64,14 +64,14 @@ module _ (s : Shape) (f : ℕ) (reads : ReadsParity s f) (some : partBytes s ≡
   unfolding shapeRefusal
   plain-allowed =
       let least : 1 ≤ partBytes s = omega arith in
-      let most : partBytes s ≤ 4096 = omega (arith, part-most s good (is-b .prepared), good .length-most) in
+      let most : partBytes s ≤ mostLength = omega (arith, part-most s good (is-b .prepared), good .length-most) in
       simp (
         le-leb 1 (s .k) (good .data-some),
-        le-leb (s .k) 255 (good .data-most),
+        le-leb (s .k) mostData (good .data-most),
         le-leb 1 f (new-least s f (reads .shape) (reads .new)),
-        le-leb f 3 (new-limit s f (reads .shape) (reads .new)),
+        le-leb f mostParity (new-limit s f (reads .shape) (reads .new)),
         le-leb 1 (partBytes s) least,
-        le-leb (partBytes s) 4096 most,
+        le-leb (partBytes s) mostLength most,
       )
 
   pub rows-done : (xs ys zs : List ℕ) → length xs ≡ bytesEach (kindOf s f) s f → length ys ≡ f * partBytes s

@@ -2,7 +2,7 @@
 ghost use mathlib.Core.Path.{_≡_};
 ghost use Prim.Native.Nat.{_*_, _<_};
 ghost use lib.ListN.{length};
-ghost use Rattle.stripe.specs.Shape.{shapeRefusal};
+ghost use Rattle.stripe.specs.Shape.{shapeRefusal, mostRows};
 ghost use Rattle.stripe.specs.Stripe.{runs};
 ghost use Rattle.plan.specs.Plan.{kindOf, bytesEach};
 ghost use Rattle.fold.specs.Shares.{ReadsParity, IsRows, shareOf, taken};
@@ -22,7 +22,7 @@ fn run_count(s: Shape) -> usize
 
 // What a stripe adds to run b of wide row j, where it is prepared.
 fn prepared_share(s: Shape, j: usize, b: usize) -> Share
-    requires { ⌜ (shapeRefusal s ≡ 0) × ((0 < s .t) × ((j < 3) × (b < 3))) ⌝ }
+    requires { ⌜ (shapeRefusal s ≡ 0) × ((0 < s .t) × ((j < mostRows) × (b < mostRows))) ⌝ }
     ensures { λ v. ⌜ v ≡ shareOf s j b ⌝ }
 {
     let r = s.r;
@@ -42,7 +42,7 @@ fn prepared_share(s: Shape, j: usize, b: usize) -> Share
 
 // What a stripe adds to run b of wide row j.
 fn share_of(s: Shape, j: usize, b: usize) -> Share
-    requires { ⌜ (shapeRefusal s ≡ 0) × ((j < 3) × (b < 3)) ⌝ }
+    requires { ⌜ (shapeRefusal s ≡ 0) × ((j < mostRows) × (b < mostRows)) ⌝ }
     ensures { λ v. ⌜ v ≡ shareOf s j b ⌝ }
 {
     if s.t == 0 {

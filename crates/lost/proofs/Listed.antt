@@ -8,14 +8,16 @@ use native.Mathlib.Omega.{arith}
 use native.Mathlib.Numerals.{add-one}
 use lib.Dec.{leb, ltb}
 use lib.ListN.{length, getD, set, drop, length-drop, List·getD-eq-default}
-use lib.Seq.{getD-set-same, getD-set-other}
+use lib.Seq.{getD-set-same, getD-set-other, ext-getD}
 use borrow.Author.Tests.{le-leb, lt-leb, lt-ltb, le-ltb, leb-true, ltb-true, eq-eqb, ne-eqb, eqb-true}
 use borrow.Author.Count.{below-more}
 use Rattle.field.proofs.Cases.{below-or-from, and-left, and-right}
+use Rattle.field.proofs.Bytes.{tabulate-length, tabulate-at}
+use Rattle.field.specs.Bytes.{tabulate}
 use Rattle.stripe.specs.Stripe.{Ascending}
 use Rattle.lost.specs.declared.Lost.{Lost}
 use Rattle.lost.specs.Positions.{positions, ascending, listRefusal}
-use Rattle.lost.specs.Lost.{lostOf}
+use Rattle.lost.specs.Lost.{lostOf, capacity}
 
 -- ---- positions by pairs
 
@@ -129,7 +131,7 @@ module _ (n r : ℕ) (ls : List ℕ) where
       unfolding listRefusal
       list-passes h = simp (eq-eqb _ _ even, up, positions-length ls, le-leb _ _ h)
 
--- ---- the first three
+-- ---- the first ones
 
 stored-one : (xs : List ℕ) (f : ℕ → ℕ) (i v : ℕ) → i < length xs → ((j : ℕ) → j < i → getD xs j 0 ≡ f j) → v ≡ f i
     → (j : ℕ) → j < i + 1 → getD (set xs i v) j 0 ≡ f j
@@ -140,31 +142,29 @@ pub stored : (ls xs : List ℕ) (i v : ℕ) → i < length xs → 2 * i + 1 < le
     → v ≡ getD ls (2 * i) 0 + getD ls (2 * i + 1) 0 * 256 → (j : ℕ) → j < i + 1 → getD (set xs i v) j 0 ≡ getD (positions ls) j 0
 stored ls xs i v h m below e = stored-one xs (λ j. getD (positions ls) j 0) i v h below (e ∙ sym (positions-at ls i m))
 
-pub three : (xs : List ℕ) → length xs ≡ 3 → xs ≡ getD xs 0 0 ∷ getD xs 1 0 ∷ getD xs 2 0 ∷ []
-three [] h = absurd (omega arith)
-three (a ∷ []) h = absurd (omega arith)
-three (a ∷ b ∷ []) h = absurd (omega arith)
-three (a ∷ b ∷ c ∷ []) h = refl
-three (a ∷ b ∷ c ∷ d ∷ xs) h = absurd (omega arith)
+pub lost-at : (ls : List ℕ) (j : ℕ) → j < capacity → getD (lostOf ls .at) j 0 ≡ getD (positions ls) j 0
+lost-at ls = tabulate-at capacity (λ v. getD (positions ls) v 0)
 
-pub made : (ls xs : List ℕ) → length xs ≡ 3 → ((j : ℕ) → j < 3 → getD xs j 0 ≡ getD (positions ls) j 0)
+pub made : (ls xs : List ℕ) → length xs ≡ capacity → ((j : ℕ) → j < capacity → getD xs j 0 ≡ getD (positions ls) j 0)
     → _≡_ {A = Lost} (record { at = xs; count = length ls / 2 }) (lostOf ls)
-made ls xs h all = rw (three xs h, all 0 (omega arith), all 1 (omega arith), all 2 (omega arith))
+made ls xs h all =
+    ap (λ (at : List ℕ). record { at = at; count = length ls / 2 })
+    (ext-getD 0 xs (lostOf ls .at) (h ∙ sym (tabulate-length capacity _)) (λ j l. all j (omega arith) ∙ sym (lost-at ls j (omega arith))))
 
 -- where there are no more pairs, zero stands there in both
 pub early : (ls xs : List ℕ) (i : ℕ) → length ls / 2 ≤ i → ((j : ℕ) → j < i → getD xs j 0 ≡ getD (positions ls) j 0) → ((j : ℕ) → i ≤ j → getD xs j 0 ≡ 0)
-    → (j : ℕ) → j < 3 → getD xs j 0 ≡ getD (positions ls) j 0
+    → (j : ℕ) → j < capacity → getD xs j 0 ≡ getD (positions ls) j 0
 early ls xs i h below above j w = go (below-or-from j i)
   where
     go : (j < i) ⊎ (i ≤ j) → getD xs j 0 ≡ getD (positions ls) j 0
     go (inl l) = below j l
     go (inr g) = above j g ∙ sym (positions-past ls j (omega arith))
 
-pub zeros : (j : ℕ) → _≡_ {A = ℕ} (getD (0 ∷ 0 ∷ 0 ∷ []) j 0) 0
-zeros zero = refl
-zeros (suc zero) = refl
-zeros (suc (suc zero)) = refl
-zeros (suc (suc (suc j))) = refl
+pub zeros : (n j : ℕ) → getD (tabulate n (λ _. 0)) j 0 ≡ 0
+unfolding tabulate
+zeros zero j = refl
+zeros (suc n) zero = refl
+zeros (suc n) (suc j) = zeros n j
 
 -- ---- a list that passes
 

@@ -18,7 +18,7 @@ use Rattle.lanes.specs.Lanes.{onto}
 use Rattle.lanes.proofs.Onto.{onto-length, onto-at}
 use Rattle.lanes.proofs.Parts.{part-length, part-at, back-length, back-inside, back-outside}
 use Rattle.stripe.specs.declared.Shape.{Shape}
-use Rattle.stripe.specs.Shape.{columns, parityLength, stripeLength}
+use Rattle.stripe.specs.Shape.{columns, parityLength, stripeLength, mostColumns, mostLength, mostParityLength}
 use Rattle.stripe.specs.Stripe.{among}
 use Rattle.stripe.proofs.Allowed.{Allowed}
 use Rattle.stripe.proofs.Places.{across-length, across-first}
@@ -35,7 +35,7 @@ use Rattle.mending.proofs.Runs.{place-off, word-is}
 
 module _ (s : Shape) (f : Allowed s) (p : Plan) (w : Planned s p) where
   many : length (lostIn p) ≡ p .lost .count
-  many = length-take-le (p .lost .count) (p .lost .at) (omega (arith, w .three, w .few))
+  many = length-take-le (p .lost .count) (p .lost .at) (omega (arith, w .room, w .few))
 
   lost-at : (v : ℕ) → v < p .lost .count → getD (lostIn p) v 0 ≡ getD (p .lost .at) v 0
   lost-at v h = getD-take (p .lost .count) (p .lost .at) v 0 h
@@ -211,8 +211,8 @@ module _ (s : Shape) (f : Allowed s) (p : Plan) (w : Planned s p) where
 -- the sizes of what is written
 pub record WriteSizes (s : Shape) (i : ℕ) : Type 0 where
   pub column : i * s .l + s .l ≤ stripeLength s
-  pub most : stripeLength s ≤ 1056768
-  pub small : parityLength s ≤ 12288
+  pub most : stripeLength s ≤ mostColumns * mostLength
+  pub small : parityLength s ≤ mostParityLength
 
 pub write-sizes : (s : Shape) (f : Allowed s) (p : Plan) → Planned s p → (v : ℕ) → v < p .lost .count → WriteSizes s (getD (p .lost .at) v 0)
 write-sizes s f p w v h =

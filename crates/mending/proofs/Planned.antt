@@ -17,7 +17,7 @@ use Rattle.field.proofs.Mul.{mul-add, mul-assoc, mul-zero, mul-lt, mul-comm, on
 use Rattle.field.proofs.Solve.{solve-same, solve-moment, solved}
 use Rattle.field.proofs.Cases.{below-or-from}
 use Rattle.stripe.specs.declared.Shape.{Shape}
-use Rattle.stripe.specs.Shape.{columns}
+use Rattle.stripe.specs.Shape.{columns, mostParity}
 use Rattle.stripe.specs.Stripe.{runs, among, Ascending}
 use Rattle.stripe.proofs.Allowed.{Allowed, allowed, plain-runs}
 use Rattle.stripe.proofs.Survivors.{Spread, firstRow, rowStep}
@@ -26,7 +26,7 @@ use Rattle.stripe.proofs.Errors.{points, points-length, points-bytes, points-we
 use Rattle.stripe.proofs.Word.{wordErrors, word-spread}
 use Rattle.lost.specs.declared.Lost.{Lost}
 use Rattle.mending.specs.declared.plan.Plan.{Plan}
-use Rattle.lost.specs.Lost.{lostList}
+use Rattle.lost.specs.Lost.{lostList, capacity}
 use Rattle.mending.specs.Restore.{Ready}
 use Rattle.mending.specs.Slots.{weighted}
 use Rattle.mending.specs.Plan.{less, lostIn, gone, PivotOf, Planned}
@@ -136,7 +136,7 @@ weighted-row j (i ∷ is) (x ∷ es) f e h =
 
 module _ (s : Shape) (f : Allowed s) (p : Plan) (w : Planned s p) where
   pub count-is : p .count ≡ length (gone s p)
-  count-is = sym (length-take-le (p .count) (p .lost .at) (omega (arith, w .many, w .few, w .three))) ∙ ap length (w .front)
+  count-is = sym (length-take-le (p .count) (p .lost .at) (omega (arith, w .many, w .few, w .room))) ∙ ap length (w .front)
 
   pub spread : Spread (rowLost (s .k) (lostIn p)) (s .r) (length (gone s p)) (firstRow (rowLost (s .k) (lostIn p))) (rowStep (rowLost (s .k) (lostIn p)))
   spread = word-spread (s .k) (s .r) (lostIn p) (f .data-most) (f .parity-most) (w .ascend) (w .fits)
@@ -238,7 +238,7 @@ less-at x [] v h = absurd (omega arith)
 less-at x (i ∷ is) zero h = refl
 less-at x (i ∷ is) (suc v) h = less-at x is v (omega arith)
 
-pub weights-turn : (is ws : List ℕ) (x j v g : ℕ) → length ws ≡ 3 → v < 3 → ((u : ℕ) → u < v → getD ws u 0 ≡ gpow ((getD is u 0 - x) * j))
+pub weights-turn : (is ws : List ℕ) (x j v g : ℕ) → length ws ≡ capacity → v < capacity → ((u : ℕ) → u < v → getD ws u 0 ≡ gpow ((getD is u 0 - x) * j))
     → g ≡ gpow ((getD is v 0 - x) * j) → (u : ℕ) → u < v + 1 → getD (set ws v g) u 0 ≡ gpow ((getD is u 0 - x) * j)
 weights-turn is ws x j v g long few h e u l = go (below-or-from u v)
   where
@@ -248,12 +248,12 @@ weights-turn is ws x j v g long few h e u l = go (below-or-from u v)
         let q : u ≡ v = omega arith in
         ap (λ (z : ℕ). getD (set ws v g) z 0) q ∙ getD-set-same ws v g 0 (omega arith) ∙ e ∙ ap (λ (z : ℕ). gpow ((getD is z 0 - x) * j)) (sym q)
 
-pub small-product : (i x j : ℕ) → i < 256 → j < 3 → (i - x) * j ≤ 256 * 3
-small-product i x j h k = mul-le-mul {n₂ = 256} {m₂ = 3} (omega arith) (omega arith)
+pub small-product : (i x j : ℕ) → i < 256 → j < mostParity → (i - x) * j ≤ 256 * mostParity
+small-product i x j h k = mul-le-mul {n₂ = 256} {m₂ = mostParity} (omega arith) (omega arith)
 
-pub weights-done : (at ws : List ℕ) (e x j v : ℕ) → e ≤ v → e ≤ 3 → length at ≡ 3 → length ws ≡ 3
+pub weights-done : (at ws : List ℕ) (e x j v : ℕ) → e ≤ v → e ≤ capacity → length at ≡ capacity → length ws ≡ capacity
     → ((u : ℕ) → u < v → getD ws u 0 ≡ gpow ((getD at u 0 - x) * j)) → take e ws ≡ points j (less x (take e at))
-weights-done at ws e x j v he few three long h =
+weights-done at ws e x j v he few room long h =
     ext-getD 0 _ _ (cut ∙ sym (points-length j (less x (take e at)) ∙ less-length x (take e at) ∙ many)) (λ u l. each u (subst (λ (z : ℕ). u < z) cut l))
   where
     cut : length (take e ws) ≡ e
@@ -274,7 +274,7 @@ pub planned : (s : Shape) (w : Lost) (e x a d : ℕ) → Ready s w → e ≤ w .
     → Planned s record { lost = w; count = e; pivot = x; first = a; step = d }
 planned s w e x a d r he front from ea ed =
     record {
-      three = r .three;
+      room = r .room;
       few = omega (arith, r .few, f .parity-most);
       ascend = r .ascend;
       fits = omega (arith, r .few, long);
@@ -292,7 +292,7 @@ planned s w e x a d r he front from ea ed =
     f = allowed s (r .shape)
 
     long : length (lostList w) ≡ w .count
-    long = length-take-le (w .count) (w .at) (omega (arith, r .three, r .few, f .parity-most))
+    long = length-take-le (w .count) (w .at) (omega (arith, r .room, r .few, f .parity-most))
 
     at : (v : ℕ) → v < w .count → getD (lostList w) v 0 ≡ getD (w .at) v 0
     at v h = getD-take (w .count) (w .at) v 0 h
@@ -326,7 +326,7 @@ planned s w e x a d r he front from ea ed =
     apart (inr q) = inr (q .0, omega (arith, q .1 .1 .1, at 0 (omega (arith, q .1 .0)), data-only (q .1 .1 .0) 0 (omega (arith, q .1 .0))))
 
 -- what the weights are asked for
-pub weights-asked : (s : Shape) (p : Plan) (x j : ℕ) → Allowed s → Planned s p → x ≤ p .pivot → j < 3
-    → (length (p .lost .at) ≡ 3) × ((p .count ≤ 3) × ((j < 3) × ((v : ℕ) → v < p .count → (x ≤ getD (p .lost .at) v 0) × (getD (p .lost .at) v 0 < 256))))
+pub weights-asked : (s : Shape) (p : Plan) (x j : ℕ) → Allowed s → Planned s p → x ≤ p .pivot → j < mostParity
+    → (length (p .lost .at) ≡ capacity) × ((p .count ≤ capacity) × ((j < mostParity) × ((v : ℕ) → v < p .count → (x ≤ getD (p .lost .at) v 0) × (getD (p .lost .at) v 0 < 256))))
 weights-asked s p x j f w hx hj =
-    (w .three, (omega (arith, w .many, w .few), (hj, λ v h. (omega (arith, w .pivot-below v h), omega (arith, position-below s f p w v h, f .data-most)))))
+    (w .room, (omega (arith, w .many, w .few), (hj, λ v h. (omega (arith, w .pivot-below v h), omega (arith, position-below s f p w v h, f .data-most)))))

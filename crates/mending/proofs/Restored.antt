@@ -12,6 +12,7 @@ use Rattle.field.specs.Bytes.{Bytes}
 use Rattle.field.specs.Row.{row}
 use Rattle.field.proofs.Xor.{sums, add-cancel}
 use Rattle.field.proofs.Cases.{below-or-from}
+use Rattle.field.proofs.Bytes.{tabulate-length}
 use Rattle.stripe.specs.declared.Shape.{Shape}
 use Rattle.stripe.specs.Shape.{shapeRefusal, columns, dataLength, stripeLength}
 use Rattle.stripe.specs.Stripe.{runLength, parityByte, dataOf, among, Ascending}
@@ -20,13 +21,13 @@ use Rattle.stripe.proofs.Places.{place-lt, by-places, across-first, data-of-len
 use Rattle.stripe.proofs.Mended.{checkAt, wanted, wordAt, wanted-below, wanted-from, dataMended, data-mended-length, data-mended-at, mended-parity-below, mended-parity-from, parity-wanted, mended-agrees-exactly}
 use Rattle.stripe.proofs.Determined.{mendable}
 use Rattle.mending.specs.declared.plan.Plan.{Plan}
-use Rattle.lost.specs.Lost.{lostList, lostOf}
+use Rattle.lost.specs.Lost.{lostList, lostOf, capacity}
 use Rattle.lost.specs.Positions.{positions}
 use Rattle.mending.specs.Mend.{mendRefusal, Restored}
 use Rattle.mending.specs.Restore.{Ready}
 use Rattle.mending.specs.Plan.{lostIn, Planned}
 use Rattle.mending.specs.Scratch.{rowByte, AllFine, SettledBelow, Added}
-use Rattle.lost.proofs.Listed.{positions-length}
+use Rattle.lost.proofs.Listed.{positions-length, lost-at}
 use Rattle.mending.proofs.Passed.{Passed, passed}
 use Rattle.mending.proofs.Settled.{all-fine}
 use Rattle.mending.proofs.Added.{added-word, added-row, added-kept}
@@ -86,21 +87,15 @@ module _ (s : Shape) (h : shapeRefusal s ≡ 0) (p : Plan) (w : Planned s p) (xs
 
 -- ---- a lent list that passes is a record that is ready
 
-pub listed-positions : (ls : List ℕ) → length (positions ls) ≤ 3 → lostList (lostOf ls) ≡ positions ls
+pub listed-positions : (ls : List ℕ) → length (positions ls) ≤ capacity → lostList (lostOf ls) ≡ positions ls
 listed-positions ls h =
     ext-getD 0 _ _ (cut ∙ sym (positions-length ls)) (λ v l. each v (subst (λ (z : ℕ). v < z) cut l))
   where
     cut : length (lostList (lostOf ls)) ≡ length ls / 2
-    cut = length-take-le (length ls / 2) (lostOf ls .at) (omega (arith, positions-length ls))
-
-    of-three : (v : ℕ) → v < 3 → getD (lostOf ls .at) v 0 ≡ getD (positions ls) v 0
-    of-three zero l = refl
-    of-three (suc zero) l = refl
-    of-three (suc (suc zero)) l = refl
-    of-three (suc (suc (suc v))) l = absurd (omega arith)
+    cut = length-take-le (length ls / 2) (lostOf ls .at) (omega (arith, positions-length ls, tabulate-length capacity (λ v. getD (positions ls) v 0)))
 
     each : (v : ℕ) → v < length ls / 2 → getD (lostList (lostOf ls)) v 0 ≡ getD (positions ls) v 0
-    each v l = getD-take (length ls / 2) (lostOf ls .at) v 0 l ∙ of-three v (omega (arith, positions-length ls))
+    each v l = getD-take (length ls / 2) (lostOf ls .at) v 0 l ∙ lost-at ls v (omega (arith, positions-length ls))
 
 module _ (s : Shape) (ls xs : List ℕ) (z : mendRefusal s (length xs) ls ≡ 0) where
   pass : Passed s (length xs) ls
@@ -113,7 +108,7 @@ module _ (s : Shape) (ls xs : List ℕ) (z : mendRefusal s (length xs) ls ≡ 0)
   ready =
       record {
         shape = pass .shape;
-        three = refl;
+        room = tabulate-length capacity _;
         few = omega (arith, pass .few, positions-length ls);
         ascend = subst (Ascending 0 (columns s)) (sym list-same) (pass .ascend);
       }

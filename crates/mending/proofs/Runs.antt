@@ -15,7 +15,7 @@ use Rattle.field.proofs.Rows.{row-lt}
 use Rattle.field.proofs.Solve.{solve-same}
 use Rattle.field.proofs.Cases.{below-or-from}
 use Rattle.stripe.specs.declared.Shape.{Shape}
-use Rattle.stripe.specs.Shape.{parityLength}
+use Rattle.stripe.specs.Shape.{parityLength, mostParity, mostLength, mostParityLength}
 use Rattle.stripe.specs.Stripe.{runs, runLength, dataOf, rowAt}
 use Rattle.stripe.proofs.Allowed.{Allowed}
 use Rattle.stripe.proofs.Places.{place-column, place-byte, across-length, parity-below, parity-from, row-at-stripe}
@@ -262,30 +262,30 @@ module _ (s : Shape) (f : Allowed s) (p : Plan) (w : Planned s p) (b j m : ℕ) 
 
 -- ---- sizes
 
-pub first-length : (s : Shape) (p : Plan) → Allowed s → Planned s p → p .first * s .l ≤ 12288
-first-length s p f w = mul-le-mul {n₂ = 3} {m₂ = 4096} (omega (arith, first-few s f p w)) (f .length-most)
+pub first-length : (s : Shape) (p : Plan) → Allowed s → Planned s p → p .first * s .l ≤ mostParityLength
+first-length s p f w = mul-le-mul {n₂ = mostParity} {m₂ = mostLength} (omega (arith, first-few s f p w)) (f .length-most)
 
-pub step-length : (s : Shape) (p : Plan) → Allowed s → Planned s p → p .step * s .l ≤ 12288
-step-length s p f w = mul-le-mul {n₂ = 3} {m₂ = 4096} (omega (arith, step-few s f p w)) (f .length-most)
+pub step-length : (s : Shape) (p : Plan) → Allowed s → Planned s p → p .step * s .l ≤ mostParityLength
+step-length s p f w = mul-le-mul {n₂ = mostParity} {m₂ = mostLength} (omega (arith, step-few s f p w)) (f .length-most)
 
 pub record Sizes (s : Shape) (p : Plan) (b j m : ℕ) : Type 0 where
-  pub row : j * s .l ≤ 12288
-  pub run : b * m ≤ 12288
-  pub first : p .first * s .l ≤ 12288
-  pub like : j * m ≤ 12288
-  pub step : p .step * s .l ≤ 12288
+  pub row : j * s .l ≤ mostParityLength
+  pub run : b * m ≤ mostParityLength
+  pub first : p .first * s .l ≤ mostParityLength
+  pub like : j * m ≤ mostParityLength
+  pub step : p .step * s .l ≤ mostParityLength
 
 pub sizes : (s : Shape) (p : Plan) (b j m : ℕ) → Allowed s → Planned s p → m ≡ runLength s → b < runs s → j < s .r → Sizes s p b j m
 sizes s p b j m f w hm hb hj =
     record {
-      row = mul-le-mul {n₂ = 3} {m₂ = 4096} (omega (arith, f .parity-most)) (f .length-most);
-      run = mul-le-mul {n₂ = 3} {m₂ = 4096} (omega (arith, f .runs-most)) short;
+      row = mul-le-mul {n₂ = mostParity} {m₂ = mostLength} (omega (arith, f .parity-most)) (f .length-most);
+      run = mul-le-mul {n₂ = mostParity} {m₂ = mostLength} (omega (arith, f .runs-most)) short;
       first = first-length s p f w;
-      like = mul-le-mul {n₂ = 3} {m₂ = 4096} (omega (arith, f .parity-most)) short;
+      like = mul-le-mul {n₂ = mostParity} {m₂ = mostLength} (omega (arith, f .parity-most)) short;
       step = step-length s p f w;
     }
   where
-    short : m ≤ 4096
+    short : m ≤ mostLength
     short = omega (arith, f .run-most, f .length-most)
 
 -- the slots of a run

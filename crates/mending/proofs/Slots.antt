@@ -19,6 +19,7 @@ use Rattle.field.proofs.Solve.{solve-same, solve-bytes, solve-length, apart-len
 use Rattle.field.proofs.Cases.{below-or-from}
 use Rattle.lanes.proofs.Onto.{map-at}
 use Rattle.lanes.proofs.Parts.{part-length, part-at, back-length, back-inside, back-outside}
+use Rattle.lost.specs.Lost.{capacity}
 use Rattle.products.proofs.Mixing.{Apart, Within}
 use Rattle.mending.specs.Slots.{slotsAt, weighted, Outside, Sources, Gathered, Spaced, OffSlots, Cleared, SetApart, First, Solved}
 
@@ -176,7 +177,7 @@ clearing-done c e a d n xs ys u h k t =
 
 -- ---- setting apart
 
-pub setting-turn : (bs ws xs : List ℕ) (v x : ℕ) → 1 ≤ v → v < length bs → length bs ≤ 3 → length xs ≡ 3
+pub setting-turn : (bs ws xs : List ℕ) (v x : ℕ) → 1 ≤ v → v < length bs → length bs ≤ capacity → length xs ≡ capacity
     → ((u : ℕ) → u + 1 < v → getD xs u 0 ≡ getD ws (u + 1) 0 ⊗ (getD bs (u + 1) 0 ⊕ getD bs 0 0))
     → x ≡ getD ws v 0 ⊗ (getD bs v 0 ⊕ getD bs 0 0)
     → (u : ℕ) → u + 1 < v + 1 → getD (set xs (v - 1) x) u 0 ≡ getD ws (u + 1) 0 ⊗ (getD bs (u + 1) 0 ⊕ getD bs 0 0)
@@ -324,7 +325,7 @@ solved-none bs ws a d n xs h = record { long = refl; at = λ q v hq hv. absurd (
 less-one : (n : ℕ) → suc n - 1 ≡ n
 less-one n = omega arith
 
-pub solved-turn : (bs ws : List ℕ) (a d n : ℕ) (xs ys ap′ us out : List ℕ) → (length bs ≡ 0 → ⊥) → length ws ≡ length bs → length bs ≤ 3 → n ≤ d
+pub solved-turn : (bs ws : List ℕ) (a d n : ℕ) (xs ys ap′ us out : List ℕ) → (length bs ≡ 0 → ⊥) → length ws ≡ length bs → length bs ≤ capacity → n ≤ d
     → Cleared (getD bs 0 0) (length bs) a d n xs ys → SetApart bs ws ap′
     → Solved (take (length bs - 1) (drop 1 bs)) (take (length bs - 1) ap′) (a + d) d n ys us
     → First ws a d n us out → Solved bs ws a d n xs out

@@ -11,7 +11,7 @@ use Rattle.stripe.specs.Stripe.{runs, among, Ascending}
 use Rattle.stripe.proofs.Survivors.{firstRow, rowStep}
 use Rattle.stripe.proofs.Lost.{lostData, rowLost}
 use Rattle.mending.specs.declared.plan.Plan.{Plan}
-use Rattle.lost.specs.Lost.{lostList}
+use Rattle.lost.specs.Lost.{lostList, capacity}
 
 -- positions counted from x on
 unfoldable pub less : ℕ → List ℕ → List ℕ
@@ -38,8 +38,8 @@ PivotOf t e n i x = (x ≡ 0) ⊎ ((t ≡ 0) × ((0 < e) × ((e ≡ n) × (x ≡
 
 -- the columns are the lost ones and the rows the first that survive; positions are counted from 0 on unless the stripe is plain and no row is lost
 pub record Planned (s : Shape) (p : Plan) : Type 0 where
-  pub three : length (p .lost .at) ≡ 3
-  pub few : p .lost .count ≤ 3
+  pub room : length (p .lost .at) ≡ capacity
+  pub few : p .lost .count ≤ capacity
   pub ascend : Ascending 0 (columns s) (lostIn p)
   pub fits : length (lostIn p) ≤ s .r
   pub many : p .count ≤ p .lost .count

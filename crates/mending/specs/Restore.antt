@@ -8,12 +8,12 @@ use Rattle.stripe.specs.declared.Shape.{Shape}
 use Rattle.stripe.specs.Shape.{shapeRefusal, columns}
 use Rattle.stripe.specs.Stripe.{Ascending}
 use Rattle.lost.specs.declared.Lost.{Lost}
-use Rattle.lost.specs.Lost.{lostList}
+use Rattle.lost.specs.Lost.{lostList, capacity}
 use Rattle.mending.specs.Mend.{Restored}
 
 pub record Ready (s : Shape) (w : Lost) : Type 0 where
   pub shape : shapeRefusal s ≡ 0
-  pub three : length (w .at) ≡ 3
+  pub room : length (w .at) ≡ capacity
   pub few : w .count ≤ s .r
   pub ascend : Ascending 0 (columns s) (lostList w)
 

@@ -18,6 +18,7 @@ use checking::first_wrong;
 use lost::Lost;
 use lost::list_refusal;
 use lost::lost_of;
+use stripe::MOST_PARITY_LENGTH;
 use stripe::Shape;
 use syndromes::syndromes;
 ghost use mathlib.Core.Path.{_≡_};
@@ -99,7 +100,7 @@ fn restore(s: Shape, lost: Lost, stripe: &mut [u8]) -> u32
         let mut slots = [0u8; 1536];
         return restore_rows(s, lost, stripe, &mut slots[..n]);
     }
-    let mut slots = [0u8; 12288];
+    let mut slots = [0u8; MOST_PARITY_LENGTH];
     restore_rows(s, lost, stripe, &mut slots[..n])
 }
 

@@ -10,8 +10,10 @@ ghost use mathlib.Core.Path.{_≡_};
 ghost use Prim.Native.Nat.{ℕ, _≤_, _<_};
 ghost use lib.ListN.{length, getD, take};
 ghost use Rattle.stripe.proofs.Errors.{points};
+ghost use Rattle.stripe.specs.Shape.{mostParity};
 ghost use Rattle.mending.specs.Restore.{Ready};
 ghost use Rattle.mending.specs.Plan.{PivotOf, Planned, less};
+ghost use Rattle.lost.specs.Lost.{capacity};
 
 // The first `count` lost positions are data columns, counted from `pivot` on; rows first, first + step, .. are solved by.
 pub struct Plan {
@@ -61,8 +63,8 @@ fn pivot_of(t: usize, count: usize, all: usize, first: usize) -> usize
 
 // g^((i - x) * j) for each lost data column i.
 pub(crate) fn row_weights(p: Plan, x: usize, j: usize) -> [u8; CAPACITY]
-    requires { ⌜ (length (p .lost .at) ≡ 3) × ((p .count ≤ 3) × ((j < 3) × ((v : ℕ) → v < p .count → (x ≤ getD (p .lost .at) v 0) × (getD (p .lost .at) v 0 < 256)))) ⌝ }
-    ensures { λ w. ⌜ (length w ≡ 3) × (take (p .count) w ≡ points j (less x (take (p .count) (p .lost .at)))) ⌝ }
+    requires { ⌜ (length (p .lost .at) ≡ capacity) × ((p .count ≤ capacity) × ((j < mostParity) × ((v : ℕ) → v < p .count → (x ≤ getD (p .lost .at) v 0) × (getD (p .lost .at) v 0 < 256)))) ⌝ }
+    ensures { λ w. ⌜ (length w ≡ capacity) × (take (p .count) w ≡ points j (less x (take (p .count) (p .lost .at)))) ⌝ }
 {
     let lost = p.lost;
     let at = lost.at;

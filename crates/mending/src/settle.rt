@@ -9,7 +9,8 @@ ghost use mathlib.Core.Bool.{false};
 ghost use Prim.Native.Nat.{ℕ, _+_, _*_, _≤_, _<_};
 ghost use lib.ListN.{length, getD};
 ghost use Rattle.stripe.specs.Stripe.{among};
-ghost use Rattle.lost.specs.Lost.{lostList};
+ghost use Rattle.stripe.specs.Shape.{mostData, mostRows, mostParity};
+ghost use Rattle.lost.specs.Lost.{lostList, capacity};
 ghost use Rattle.syndromes.specs.Syndromes.{Says};
 ghost use Rattle.mending.specs.Plan.{Solver};
 ghost use Rattle.mending.specs.Scratch.{Buffers, Settles, RowSettles};
@@ -45,7 +46,7 @@ fn settle_row(s: Shape, p: Plan, j: usize, slots: &mut [u8]) -> bool
 
 // Whether row j is one of those solved by.
 fn solves(p: Plan, j: usize) -> bool
-    requires { ⌜ (p .count ≤ 3) × ((p .first ≤ 3) × (p .step ≤ 3)) ⌝ }
+    requires { ⌜ (p .count ≤ capacity) × ((p .first ≤ mostRows) × (p .step ≤ mostRows)) ⌝ }
     ensures { λ v. ⌜ Says v (Solver p j) ⌝ }
 {
     let mut v = 0;
@@ -60,7 +61,7 @@ fn solves(p: Plan, j: usize) -> bool
 
 // Whether row j is lost or zero.
 fn clean(s: Shape, p: Plan, j: usize, slots: &[u8]) -> bool
-    requires { ⌜ (p .lost .count ≤ 3) × ((s .k ≤ 255) × ((j < 3) × (j * s .l + s .l ≤ length (now slots)))) ⌝ }
+    requires { ⌜ (p .lost .count ≤ capacity) × ((s .k ≤ mostData) × ((j < mostParity) × (j * s .l + s .l ≤ length (now slots)))) ⌝ }
     ensures { λ v. ⌜ Says v (among (s .k + j) (lostList (p .lost)) ≡ false → (y : ℕ) → y < s .l → getD (now (slots .entry)) (j * s .l + y) 0 ≡ 0) ⌝ }
 {
     let l = s.l;

@@ -10,6 +10,7 @@ ghost use mathlib.Core.Path.{_≡_};
 ghost use Prim.Native.Nat.{_≤_, _<_};
 ghost use lib.ListN.{length};
 ghost use Rattle.mending.specs.Slots.{Spaced, Cleared, First, SetApart, Solved};
+ghost use Rattle.lost.specs.Lost.{capacity};
 
 // The values that have the sums, in place of the sums.
 pub(crate) fn solve_slots(
@@ -49,7 +50,7 @@ fn clear(c: u8, e: usize, slots: &mut [u8], at: usize, d: usize, n: usize)
 
 // The weights but the first, each times what its point is apart from the first.
 fn set_apart(points: &[u8], weights: &[u8]) -> [u8; CAPACITY]
-    requires { ⌜ (length (now points) ≤ 3) × (length (now weights) ≡ length (now points)) ⌝ }
+    requires { ⌜ (length (now points) ≤ capacity) × (length (now weights) ≡ length (now points)) ⌝ }
     ensures { λ v. ⌜ SetApart (now (points .entry)) (now (weights .entry)) v ⌝ }
 {
     let mut w = [0u8; CAPACITY];

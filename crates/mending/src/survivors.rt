@@ -3,14 +3,15 @@ use lost::Lost;
 ghost use mathlib.Core.Path.{_≡_};
 ghost use Prim.Native.Nat.{_≤_};
 ghost use lib.ListN.{take};
-ghost use Rattle.lost.specs.Lost.{lostList};
+ghost use Rattle.lost.specs.Lost.{lostList, capacity};
 ghost use Rattle.stripe.specs.Stripe.{among, Ascending};
+ghost use Rattle.stripe.specs.Shape.{mostData};
 ghost use Rattle.stripe.proofs.Lost.{lostData, rowLost};
 ghost use Rattle.stripe.proofs.Survivors.{firstRow, rowStep};
 
 // Whether position c is lost.
 pub(crate) fn is_lost(lost: Lost, c: usize) -> bool
-    requires { ⌜ lost .count ≤ 3 ⌝ }
+    requires { ⌜ lost .count ≤ capacity ⌝ }
     ensures { λ v. ⌜ v ≡ among c (lostList lost) ⌝ }
 {
     let at = lost.at;
@@ -27,7 +28,7 @@ pub(crate) fn is_lost(lost: Lost, c: usize) -> bool
 
 // How many data columns are lost: their positions, below k, stand first.
 pub(crate) fn data_lost(lost: Lost, k: usize, n: usize) -> usize
-    requires { ⌜ (lost .count ≤ 3) × Ascending 0 n (lostList lost) ⌝ }
+    requires { ⌜ (lost .count ≤ capacity) × Ascending 0 n (lostList lost) ⌝ }
     ensures { λ v. ⌜ (v ≤ lost .count) × (take v (lost .at) ≡ lostData k (lostList lost)) ⌝ }
 {
     let at = lost.at;
@@ -44,7 +45,7 @@ pub(crate) fn data_lost(lost: Lost, k: usize, n: usize) -> usize
 
 // The first row that survives, where one does.
 pub(crate) fn first_row(lost: Lost, k: usize) -> usize
-    requires { ⌜ (lost .count ≤ 3) × (k ≤ 255) ⌝ }
+    requires { ⌜ (lost .count ≤ capacity) × (k ≤ mostData) ⌝ }
     ensures { λ v. ⌜ v ≡ firstRow (rowLost k (lostList lost)) ⌝ }
 {
     if is_lost(lost, k) {
@@ -58,7 +59,7 @@ pub(crate) fn first_row(lost: Lost, k: usize) -> usize
 
 // How far the next one that survives is.
 pub(crate) fn row_step(lost: Lost, k: usize) -> usize
-    requires { ⌜ (lost .count ≤ 3) × (k ≤ 255) ⌝ }
+    requires { ⌜ (lost .count ≤ capacity) × (k ≤ mostData) ⌝ }
     ensures { λ v. ⌜ v ≡ rowStep (rowLost k (lostList lost)) ⌝ }
 {
     if is_lost(lost, k) {

@@ -5,8 +5,9 @@ use stripe::Shape;
 ghost use mathlib.Core.Path.{_≡_};
 ghost use Prim.Native.Nat.{_≤_};
 ghost use lib.ListN.{length};
-ghost use Rattle.stripe.specs.Shape.{stripeLength};
+ghost use Rattle.stripe.specs.Shape.{stripeLength, mostRows};
 ghost use Rattle.mending.specs.Scratch.{Buffers, slotRow, Added};
+ghost use Rattle.lost.specs.Lost.{capacity};
 
 // To each lost column the row of the slots that holds what it lacks.
 pub(crate) fn write(s: Shape, p: Plan, slots: &[u8], stripe: &mut [u8])
@@ -30,7 +31,7 @@ pub(crate) fn write(s: Shape, p: Plan, slots: &[u8], stripe: &mut [u8])
 
 // The row of the slots for lost column v, at position i.
 fn slot_row(s: Shape, p: Plan, v: usize, i: usize) -> usize
-    requires { ⌜ (p .first ≤ 3) × ((p .step ≤ 3) × ((v ≤ 3) × (p .count ≤ v → s .k ≤ i))) ⌝ }
+    requires { ⌜ (p .first ≤ mostRows) × ((p .step ≤ mostRows) × ((v ≤ capacity) × (p .count ≤ v → s .k ≤ i))) ⌝ }
     ensures { λ x. ⌜ x ≡ slotRow s p v i ⌝ }
 {
     if v < p.count {

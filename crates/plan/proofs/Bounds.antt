@@ -9,7 +9,7 @@ use lib.Dec.{leb}
 use mir.Syntax.{w64}
 use mir.Val.{Fits}
 use Rattle.stripe.specs.declared.Shape.{Shape}
-use Rattle.stripe.specs.Shape.{shapeRefusal}
+use Rattle.stripe.specs.Shape.{shapeRefusal, mostData, mostRows, mostParity, mostColumns, mostLength, mostParityLength}
 use Rattle.stripe.proofs.Allowed.{Allowed, Prepared, allowed}
 use Rattle.plan.specs.declared.Kind.{Kind}
 use Rattle.plan.specs.declared.Kind.the-variants.{A, B, C}
@@ -33,51 +33,51 @@ b-prepared s f passed e = go (allowed s passed .mark)
     go (inr p) = p
 
 module _ (s : Shape) (passed : shapeRefusal s ≡ 0) where
-  mark-small : s .t ≤ 3
+  mark-small : s .t ≤ mostRows
   mark-small = go (allowed s passed .mark)
     where
-      go : (s .t ≡ 0) ⊎ Prepared s → s .t ≤ 3
+      go : (s .t ≡ 0) ⊎ Prepared s → s .t ≤ mostRows
       go (inl e) = omega arith
       go (inr p) = p .mark-most
 
-  pub data-small : s .k ≤ 255
+  pub data-small : s .k ≤ mostData
   data-small = allowed s passed .data-most
 
-  pub parity-small : s .r ≤ 3
+  pub parity-small : s .r ≤ mostParity
   parity-small = allowed s passed .parity-most
 
-  pub length-small : s .l ≤ 4096
+  pub length-small : s .l ≤ mostLength
   length-small = allowed s passed .length-most
 
-  pub run-small : s .l / s .t ≤ 4096
+  pub run-small : s .l / s .t ≤ mostLength
   run-small = omega (arith, div-le-self (s .l) (s .t), length-small)
 
-  rest-small : s .t - s .r ≤ 3
+  rest-small : s .t - s .r ≤ mostRows
   rest-small = omega (arith, mark-small)
 
-  pub new-product : (f : ℕ) → f ≤ 3 → f * s .l ≤ 12288
+  pub new-product : (f : ℕ) → f ≤ mostRows → f * s .l ≤ mostRows * mostLength
   new-product f h = mul-le-mul h length-small
 
-  pub data-product : s .k * s .l ≤ 1044480
+  pub data-product : s .k * s .l ≤ mostData * mostLength
   data-product = mul-le-mul data-small length-small
 
   pub parity-runs : s .r * s .t ≤ 9
   parity-runs = mul-le-mul parity-small mark-small
 
-  pub data-runs : s .k * (s .t - s .r) ≤ 765
+  pub data-runs : s .k * (s .t - s .r) ≤ mostData * mostRows
   data-runs = mul-le-mul data-small rest-small
 
   pub all-runs : (s .r * s .t + s .k * (s .t - s .r)) * (s .l / s .t) ≤ 3170304
   all-runs = mul-le-mul {n₂ = 774} (omega (arith, parity-runs, data-runs)) run-small
 
-  pub first-small : s .r * (s .l / s .t) ≤ 12288
+  pub first-small : s .r * (s .l / s .t) ≤ mostParityLength
   first-small = mul-le-mul parity-small run-small
 
-  pub part-small : (s .t - s .r) * (s .l / s .t) ≤ 12288
+  pub part-small : (s .t - s .r) * (s .l / s .t) ≤ mostRows * mostLength
   part-small = mul-le-mul rest-small run-small
 
 module _ (s : Shape) (n f : ℕ) (passed : foldRefusal s n f ≡ 0) where
-  pub each-small : columnsEach (kindOf s f) s f ≤ 258
+  pub each-small : columnsEach (kindOf s f) s f ≤ mostColumns
   unfolding columnsEach
   each-small = go (kindOf s f)
     where
@@ -87,7 +87,7 @@ module _ (s : Shape) (n f : ℕ) (passed : foldRefusal s n f ≡ 0) where
       a : Allowed s
       a = able .shape
 
-      go : (κ : Kind) → columnsEach κ s f ≤ 258
+      go : (κ : Kind) → columnsEach κ s f ≤ mostColumns
       go A = omega (arith, able .new-most)
       go B = omega (arith, a .data-most, a .parity-most)
       go C = omega (arith, a .data-most)
@@ -95,7 +95,7 @@ module _ (s : Shape) (n f : ℕ) (passed : foldRefusal s n f ≡ 0) where
   pub columns-small : n * columnsEach (kindOf s f) s f ≤ 65790
   columns-small = mul-le-mul (foldable s n f passed .stripes-most) each-small
 
-  pub bytes-small : n * bytesEach (kindOf s f) s f ≤ 1044480
+  pub bytes-small : n * bytesEach (kindOf s f) s f ≤ mostData * mostLength
   bytes-small =
-      let h : n * s .k * s .l ≤ 1044480 = mul-le-mul (foldable s n f passed .wide-most) (foldable s n f passed .shape .length-most) in
+      let h : n * s .k * s .l ≤ mostData * mostLength = mul-le-mul (foldable s n f passed .wide-most) (foldable s n f passed .shape .length-most) in
       omega (arith, bytes-most s n f, bytes-read s n f passed)

@@ -9,7 +9,7 @@ use lib.Dec.{leb, eqb, eqb·suc-zero}
 use borrow.Author.Tests.{leb-true, leb-false, eqb-true, eq-eqb, ne-eqb}
 use Rattle.field.proofs.Cases.{and-left, and-right}
 use Rattle.stripe.specs.declared.Shape.{Shape}
-use Rattle.stripe.specs.Shape.{shapeRefusal}
+use Rattle.stripe.specs.Shape.{shapeRefusal, mostData, mostRows}
 use Rattle.stripe.proofs.Allowed.{Allowed, Prepared, allowed, prepared-runs, prepared-run-length}
 use Rattle.plan.specs.declared.Kind.the-variants.{A, B, C}
 use Rattle.plan.specs.Plan.{kindOf, foldRefusal, stripesAllowed, newAllowed}
@@ -35,9 +35,9 @@ pub record Foldable (s : Shape) (n f : ℕ) : Type 0 where
   pub shape : Allowed s
   pub stripes-some : 2 ≤ n
   pub stripes-most : n ≤ 255
-  pub wide-most : n * s .k ≤ 255
+  pub wide-most : n * s .k ≤ mostData
   pub new-some : 1 ≤ f
-  pub new-most : f ≤ 3
+  pub new-most : f ≤ mostRows
   pub kinds : IsA s f ⊎ (IsB s f ⊎ IsC s f)
 
 and-false : (a b : Bool) → (a && b) ≡ false → (a ≡ false) ⊎ (b ≡ false)
@@ -84,17 +84,17 @@ kind-cases s f (inr p) h =
 
 -- an allowed f
 module _ (s : Shape) (f : ℕ) (passed : shapeRefusal s ≡ 0) (new : newAllowed (s .t) f ≡ true) where
-  f-bounds : leb 1 f && leb f 3 ≡ true
+  f-bounds : leb 1 f && leb f mostRows ≡ true
   f-bounds = and-left _ _ new
 
   pub new-least : 1 ≤ f
   new-least = leb-true _ _ (and-left _ _ f-bounds)
 
-  pub new-limit : f ≤ 3
+  pub new-limit : f ≤ mostRows
   new-limit = leb-true _ _ (and-right (leb 1 f) _ f-bounds)
 
   pub new-kinds : IsA s f ⊎ (IsB s f ⊎ IsC s f)
-  new-kinds = kind-cases s f (allowed s passed .mark) (and-right (leb 1 f && leb f 3) _ new)
+  new-kinds = kind-cases s f (allowed s passed .mark) (and-right (leb 1 f && leb f mostRows) _ new)
 
 module _ (s : Shape) (n f : ℕ) (passed : foldRefusal s n f ≡ 0) where
   pub tests-passed : (shapeRefusal s ≡ 0) × ((stripesAllowed (s .k) n ≡ true) × (newAllowed (s .t) f ≡ true))

@@ -12,6 +12,7 @@ use lib.Seq.{getD-append-add}
 use borrow.Author.Tests.{lt-ltb, le-ltb, eq-eqb, eqb-true}
 use Rattle.field.proofs.Cases.{below-or-from}
 use Rattle.stripe.specs.declared.Shape.{Shape}
+use Rattle.stripe.specs.Shape.{mostColumns}
 use Rattle.stripe.proofs.Places.{place-some, place-column-lt, place-byte-lt}
 use Rattle.plan.specs.declared.Kind.{Kind}
 use Rattle.plan.specs.declared.Kind.the-variants.{A, B, C}
@@ -127,7 +128,7 @@ module _ (s : Shape) (n f i x : ℕ) (h : i < columnsRead s n f) (e : x ≡ colu
   pub stripe-small : i / x ≤ 255
   stripe-small = let g = foldable s n f passed .stripes-most in omega (arith, place-column-lt i n x within)
 
-  pub column-small : i % x ≤ 258
+  pub column-small : i % x ≤ mostColumns
   column-small = omega (arith, place-byte-lt i n x within, each-small s n f passed)
 
   pub span-number : columnSpan (kindOf s f) s (i / x) (i % x) ≡ spanAt s n f i

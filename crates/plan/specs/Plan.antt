@@ -6,18 +6,18 @@ use mathlib.Core.List.{List, [], _∷_, _++_}
 use lib.Dec.{leb, ltb, eqb}
 use lib.ListN.{getD}
 use Rattle.stripe.specs.declared.Shape.{Shape}
-use Rattle.stripe.specs.Shape.{shapeRefusal}
+use Rattle.stripe.specs.Shape.{shapeRefusal, mostData, mostRows}
 use Rattle.plan.specs.declared.Kind.{Kind}
 use Rattle.plan.specs.declared.Kind.the-variants.{A, B, C}
 use Rattle.plan.specs.declared.Span.{Span}
 
 -- N is 2 to 255, with N*k <= 255
 abbrev pub stripesAllowed : ℕ → ℕ → Bool
-stripesAllowed k n = leb 2 n && leb n 255 && leb (n * k) 255
+stripesAllowed k n = leb 2 n && leb n 255 && leb (n * k) mostData
 
 -- f is 1 to 3; if t is not 0, f = t
 abbrev pub newAllowed : ℕ → ℕ → Bool
-newAllowed t f = leb 1 f && leb f 3 && (eqb t 0 || eqb f t)
+newAllowed t f = leb 1 f && leb f mostRows && (eqb t 0 || eqb f t)
 
 -- the refusal of a fold: 1 and 2 for the shape, 3 for N, 4 for f, 0 for none
 unfoldable pub foldRefusal : Shape → ℕ → ℕ → ℕ

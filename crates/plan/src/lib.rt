@@ -2,8 +2,10 @@
 // crate `counts` says how many. Every function is total: what is refused reads nothing.
 ghost use mathlib.Core.Path.{_≡_};
 ghost use Prim.Native.Nat.{_*_, _<_, _≤_};
-ghost use Rattle.stripe.specs.Shape.{shapeRefusal};
+ghost use Rattle.stripe.specs.Shape.{shapeRefusal, mostData, mostColumns};
 ghost use Rattle.plan.specs.Plan.{foldRefusal, stripesAllowed, newAllowed, kindOf, columnsEach, columnsRead, columnSpan, spanAt, wideAnswer};
+use stripe::MOST_DATA;
+use stripe::MOST_ROWS;
 use stripe::Shape;
 
 // The kinds of folds. A reads parity columns, B runs of the data and the parity, C the data.
@@ -41,7 +43,7 @@ pub fn fold_refusal(s: Shape, stripes: usize, f: usize) -> u32
 
 // Whether n is 2 to 255 with n * k at most 255.
 fn stripes_allowed(k: usize, n: usize) -> bool
-    requires { ⌜ k ≤ 255 ⌝ }
+    requires { ⌜ k ≤ mostData ⌝ }
     ensures { λ v. ⌜ v ≡ stripesAllowed k n ⌝ }
 {
     if n < 2 {
@@ -50,7 +52,7 @@ fn stripes_allowed(k: usize, n: usize) -> bool
     if 255 < n {
         return false;
     }
-    n * k <= 255
+    n * k <= MOST_DATA
 }
 
 // Whether f is 1 to 3 and, if t is not 0, f is t.
@@ -60,7 +62,7 @@ fn new_allowed(t: usize, f: usize) -> bool
     if f < 1 {
         return false;
     }
-    if 3 < f {
+    if MOST_ROWS < f {
         return false;
     }
     if t == 0 {
@@ -110,7 +112,7 @@ pub fn span_count(s: Shape, stripes: usize, f: usize) -> usize
 
 // The span of the column that is number i of those read of stripe n.
 fn column_span(s: Shape, f: usize, n: usize, i: usize) -> Span
-    requires { ⌜ (shapeRefusal s ≡ 0) × ((n ≤ 255) × (i ≤ 258)) ⌝ }
+    requires { ⌜ (shapeRefusal s ≡ 0) × ((n ≤ 255) × (i ≤ mostColumns)) ⌝ }
     ensures { λ v. ⌜ v ≡ columnSpan (kindOf s f) s n i ⌝ }
 {
     let k = s.k;

@@ -6,6 +6,7 @@ use native.Mathlib.Omega.{arith}
 use lib.Dec.{leb}
 use borrow.Author.Tests.{leb-true, leb-false, ltb-true, eqb-true, le-leb, lt-leb, lt-ltb, eq-eqb}
 use Rattle.rows.specs.Rows.{columnsFit, rowsFit, runFits}
+use Rattle.stripe.specs.Shape.{mostRows, mostData, mostLength}
 
 and-of : (a b : Bool) → a ≡ true → b ≡ true → a && b ≡ true
 and-of a b e f = ap (λ (x : Bool). x && b) e ∙ f
@@ -13,8 +14,8 @@ and-of a b e f = ap (λ (x : Bool). x && b) e ∙ f
 pub record Columns (d k l : ℕ) : Type 0 where
   pub long : d ≡ k * l
   pub some : 1 ≤ k
-  pub most : k ≤ 255
-  pub length-most : l ≤ 4096
+  pub most : k ≤ mostData
+  pub length-most : l ≤ mostLength
 
 pub columns-fit : (d k l : ℕ) → columnsFit d k l ≡ true → Columns d k l
 unfolding columnsFit
@@ -31,7 +32,7 @@ fit-columns d k l c = and-of _ _ (and-of _ _ (and-of _ _ (le-leb _ _ (c .some)) 
 pub record Rows (d k l r n : ℕ) : Type 0 where
   pub columns : Columns d k l
   pub some : 1 ≤ r
-  pub most : r ≤ 3
+  pub most : r ≤ mostRows
   pub long : n ≡ r * l
 
 pub rows-fit : (d k l r n : ℕ) → rowsFit d k l r n ≡ true → Rows d k l r n
@@ -47,7 +48,7 @@ fit-rows d k l r n f =
 
 pub record Run (d k l j from n : ℕ) : Type 0 where
   pub columns : Columns d k l
-  pub row : j < 3
+  pub row : j < mostRows
   pub inside : from + n ≤ l
 
 pub run-fits : (d k l j from n : ℕ) → runFits d k l j from n ≡ true → Run d k l j from n

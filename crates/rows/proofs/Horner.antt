@@ -18,6 +18,7 @@ use Rattle.field.proofs.Rows.{row-cons, row-lt, row-one}
 use Rattle.lanes.specs.Lanes.{onto, both}
 use Rattle.lanes.proofs.Onto.{onto-at, onto-length, both-at, both-long}
 use Rattle.stripe.specs.Stripe.{across}
+use Rattle.stripe.specs.Shape.{mostRows}
 use Rattle.rows.specs.Rows.{stepOf, RowIn}
 use Rattle.lanes.proofs.Parts.{part-length, part-at}
 
@@ -53,7 +54,7 @@ step-quadruple j h =
     sym (ap {B = ℕ → ℕ → ℕ} (λ (b : Bool) (x y : ℕ). cond b (x ⊕ y) (cond (ltb j 2) (2 ⊗ x ⊕ y) (4 ⊗ x ⊕ y))) (le-ltb j 1 (omega arith))
     ∙ ap {B = ℕ → ℕ → ℕ} (λ (b : Bool) (x y : ℕ). cond b (2 ⊗ x ⊕ y) (4 ⊗ x ⊕ y)) (le-ltb j 2 h))
 
-pub step-right : (j : ℕ) → j < 3 → Step j (stepOf j)
+pub step-right : (j : ℕ) → j < mostRows → Step j (stepOf j)
 unfolding stepOf
 step-right zero h x y l = step-0 x y l
 step-right (suc zero) h x y l = step-1 x y l

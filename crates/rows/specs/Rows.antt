@@ -10,20 +10,20 @@ use Rattle.field.specs.Field.{_⊕_, _⊗_}
 use Rattle.field.specs.Bytes.{tabulate}
 use Rattle.field.specs.Row.{row}
 use Rattle.lanes.specs.Lanes.{onto}
-use Rattle.stripe.specs.Shape.{dataAllowed, parityAllowed}
+use Rattle.stripe.specs.Shape.{mostRows, mostLength, dataAllowed}
 use Rattle.stripe.specs.Stripe.{across}
 
 -- d bytes are k columns of l bytes, 1 to 255 columns of at most 4,096 bytes
 unfoldable pub columnsFit : ℕ → ℕ → ℕ → Bool
-columnsFit d k l = dataAllowed k && leb l 4096 && eqb d (k * l)
+columnsFit d k l = dataAllowed k && leb l mostLength && eqb d (k * l)
 
 -- and n bytes are as long as r rows of them, 1 to 3
 abbrev pub rowsFit : ℕ → ℕ → ℕ → ℕ → ℕ → Bool
-rowsFit d k l r n = columnsFit d k l && (parityAllowed r && eqb n (r * l))
+rowsFit d k l r n = columnsFit d k l && (leb 1 r && leb r mostRows && eqb n (r * l))
 
 -- and row j is one of the first three, and its n places from `from` on are within it
 abbrev pub runFits : ℕ → ℕ → ℕ → ℕ → ℕ → ℕ → Bool
-runFits d k l j from n = columnsFit d k l && (ltb j 3 && leb (from + n) l)
+runFits d k l j from n = columnsFit d k l && (ltb j mostRows && leb (from + n) l)
 
 -- rows 0 to r - 1 of the k columns, one after another
 unfoldable pub rowsOf : List ℕ → ℕ → ℕ → ℕ → List ℕ

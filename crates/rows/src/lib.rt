@@ -7,12 +7,16 @@ use lanes::copy;
 use steps::double_add;
 use steps::quadruple_add;
 use steps::quadruple_add_two;
+use stripe::MOST_DATA;
+use stripe::MOST_LENGTH;
+use stripe::MOST_ROWS;
 ghost use mathlib.Core.Path.{_≡_};
 ghost use Prim.Native.Nat.{ℕ, _+_, _*_, _≤_, _<_};
 ghost use lib.ListN.{length, getD};
 ghost use Rattle.field.specs.Field.{_⊕_, _⊗_};
 ghost use Rattle.lanes.specs.Lanes.{onto, both};
 ghost use Rattle.rows.specs.Rows.{columnsFit, rowsFit, runFits, filled, added, stepOf, RowIn, RowsBelow, Put, Added};
+ghost use Rattle.stripe.specs.Shape.{mostRows};
 
 // Rows 0, 1 and 2 of a block, or the first two of them.
 struct Rows {
@@ -34,7 +38,7 @@ fn last(data: &[u8], at: usize, n: usize) -> [u8; 64]
 
 // Row j, of the first three, of the k columns of l bytes, at the n places from `from` on.
 fn row_block(data: &[u8], k: usize, l: usize, j: usize, from: usize, n: usize) -> [u8; 64]
-    requires { ⌜ (length (now «data») ≡ k * l) × ((0 < k) × ((j < 3) × ((n ≤ 64) × (from + n ≤ l)))) ⌝ }
+    requires { ⌜ (length (now «data») ≡ k * l) × ((0 < k) × ((j < mostRows) × ((n ≤ 64) × (from + n ≤ l)))) ⌝ }
     ensures { λ v. ⌜ RowIn (now («data» .entry)) k l from n j v ⌝ }
 {
     let mut i = k - 1;
@@ -193,7 +197,7 @@ fn fill_block3(data: &[u8], k: usize, l: usize, from: usize, out: &mut [u8])
 
 // The first r rows at the 64 places from `from` on, where those before are there.
 fn fill_block(data: &[u8], k: usize, l: usize, r: usize, from: usize, out: &mut [u8])
-    requires { ⌜ (length (now «data») ≡ k * l) × ((0 < k) × ((from + 64 ≤ l) × ((1 ≤ r) × ((r ≤ 3) × ((length (now out) ≡ r * l) × RowsBelow (now «data») k l r from (now out)))))) ⌝ }
+    requires { ⌜ (length (now «data») ≡ k * l) × ((0 < k) × ((from + 64 ≤ l) × ((1 ≤ r) × ((r ≤ mostRows) × ((length (now out) ≡ r * l) × RowsBelow (now «data») k l r from (now out)))))) ⌝ }
     ensures { λ _. ⌜ RowsBelow (now («data» .entry)) k l r (from + 64) (now (out .exit)) ⌝ }
 {
     if r < 2 {
@@ -209,7 +213,7 @@ fn fill_block(data: &[u8], k: usize, l: usize, r: usize, from: usize, out: &mut 
 
 // The first r rows of columns no shorter than a block.
 fn fill_long(data: &[u8], k: usize, l: usize, r: usize, out: &mut [u8])
-    requires { ⌜ (length (now «data») ≡ k * l) × ((0 < k) × ((64 ≤ l) × ((1 ≤ r) × ((r ≤ 3) × (length (now out) ≡ r * l))))) ⌝ }
+    requires { ⌜ (length (now «data») ≡ k * l) × ((0 < k) × ((64 ≤ l) × ((1 ≤ r) × ((r ≤ mostRows) × (length (now out) ≡ r * l))))) ⌝ }
     ensures { λ _. ⌜ RowsBelow (now («data» .entry)) k l r l (now (out .exit)) ⌝ }
 {
     let mut b = 0;
@@ -222,7 +226,7 @@ fn fill_long(data: &[u8], k: usize, l: usize, r: usize, out: &mut [u8])
 
 // The first r rows of columns no longer than a block.
 fn fill_short(data: &[u8], k: usize, l: usize, r: usize, out: &mut [u8])
-    requires { ⌜ (length (now «data») ≡ k * l) × ((0 < k) × ((l ≤ 64) × ((length (now out) ≡ r * l) × (r ≤ 3)))) ⌝ }
+    requires { ⌜ (length (now «data») ≡ k * l) × ((0 < k) × ((l ≤ 64) × ((length (now out) ≡ r * l) × (r ≤ mostRows)))) ⌝ }
     ensures { λ _. ⌜ RowsBelow (now («data» .entry)) k l r l (now (out .exit)) ⌝ }
 {
     let mut j = 0;
@@ -240,10 +244,10 @@ fn columns_fit(d: usize, k: usize, l: usize) -> bool
     if k < 1 {
         return false;
     }
-    if 255 < k {
+    if MOST_DATA < k {
         return false;
     }
-    if 4096 < l {
+    if MOST_LENGTH < l {
         return false;
     }
     d == k * l
@@ -259,7 +263,7 @@ fn rows_fit(d: usize, k: usize, l: usize, r: usize, n: usize) -> bool
     if r < 1 {
         return false;
     }
-    if 3 < r {
+    if MOST_ROWS < r {
         return false;
     }
     n == r * l
@@ -272,7 +276,7 @@ fn run_fits(d: usize, k: usize, l: usize, j: usize, from: usize, n: usize) -> bo
     if !columns_fit(d, k, l) {
         return false;
     }
-    if 2 < j {
+    if MOST_ROWS <= j {
         return false;
     }
     if l < from {
@@ -306,7 +310,7 @@ fn add_block(
     n: usize,
     run: &mut [u8],
 )
-    requires { ⌜ (length (now «data») ≡ k * l) × ((0 < k) × ((j < 3) × ((n ≤ 64) × ((from + n ≤ l) × (at + n ≤ length (now run)))))) ⌝ }
+    requires { ⌜ (length (now «data») ≡ k * l) × ((0 < k) × ((j < mostRows) × ((n ≤ 64) × ((from + n ≤ l) × (at + n ≤ length (now run)))))) ⌝ }
     ensures { λ _. ⌜ Added (now («data» .entry)) k l j from at n (now (run .entry)) (now (run .exit)) ⌝ }
 {
     let b = row_block(data, k, l, j, from, n);

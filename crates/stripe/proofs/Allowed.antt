@@ -9,31 +9,31 @@ use lib.Dec.{leb, ltb, eqb}
 use borrow.Author.Tests.{ltb-true, leb-true, eqb-true, eq-eqb, ne-eqb}
 use Rattle.field.proofs.Cases.{and-left, and-right}
 use Rattle.stripe.specs.declared.Shape.{Shape}
-use Rattle.stripe.specs.Shape.{shapeRefusal, dataAllowed, parityAllowed, markAllowed, lengthAllowed, dataLength, parityLength, stripeLength}
+use Rattle.stripe.specs.Shape.{shapeRefusal, dataAllowed, parityAllowed, markAllowed, lengthAllowed, dataLength, parityLength, stripeLength, mostData, mostRows, mostParity, mostColumns, mostLength, mostParityLength}
 use Rattle.stripe.specs.Stripe.{runs, runLength}
 
--- the marks that are allowed beside 0: more than r, at most 3 and at most k
+-- the marks that are allowed beside 0: more than r, at most `mostRows` and at most k
 pub record Prepared (s : Shape) : Type 0 where
   pub gains : s .r < s .t
-  pub mark-most : s .t ≤ 3
+  pub mark-most : s .t ≤ mostRows
   pub mark-data : s .t ≤ s .k
 
 pub record Allowed (s : Shape) : Type 0 where
   pub data-some : 1 ≤ s .k
-  pub data-most : s .k ≤ 255
+  pub data-most : s .k ≤ mostData
   pub parity-some : 1 ≤ s .r
-  pub parity-most : s .r ≤ 3
+  pub parity-most : s .r ≤ mostParity
   pub mark : (s .t ≡ 0) ⊎ Prepared s
   pub length-some : 1 ≤ s .l
-  pub length-most : s .l ≤ 4096
+  pub length-most : s .l ≤ mostLength
   pub runs-some : 1 ≤ runs s
-  pub runs-most : runs s ≤ 3
+  pub runs-most : runs s ≤ mostRows
   pub run-some : 0 < runLength s
   pub run-most : runLength s ≤ s .l
   pub cut : runs s * runLength s ≡ s .l
-  pub data-length : dataLength s ≤ 1044480
-  pub parity-length : parityLength s ≤ 12288
-  pub stripe-length : stripeLength s ≤ 1056768
+  pub data-length : dataLength s ≤ mostData * mostLength
+  pub parity-length : parityLength s ≤ mostParityLength
+  pub stripe-length : stripeLength s ≤ mostColumns * mostLength
 
 or-cases : (a b : Bool) → (a || b) ≡ true → (a ≡ true) ⊎ (b ≡ true)
 or-cases true b e = inl refl
@@ -76,10 +76,10 @@ prepared-run-length s p = run-length-by s (s .t) (prepared-runs s p)
 -- the facts of the record, from those of the four numbers
 record Runs (s : Shape) : Type 0 where
   some : 1 ≤ runs s
-  most : runs s ≤ 3
+  most : runs s ≤ mostRows
   exact : runs s * runLength s ≡ s .l
 
-cut-runs : (s : Shape) (n : ℕ) → runs s ≡ n → 1 ≤ n → n ≤ 3 → n * (s .l / n) ≡ s .l → Runs s
+cut-runs : (s : Shape) (n : ℕ) → runs s ≡ n → 1 ≤ n → n ≤ mostRows → n * (s .l / n) ≡ s .l → Runs s
 cut-runs s n e p q x =
     record {
       some = omega arith;
@@ -94,8 +94,8 @@ prepared-cut : (s : Shape) → Prepared s → s .l % s .t ≡ 0 → Runs s
 prepared-cut s p e =
     cut-runs s (s .t) (prepared-runs s (omega arith)) (omega arith) (p .mark-most) (cut-exact (s .l) (s .t) e)
 
-all-facts : (s : Shape) → 1 ≤ s .k → s .k ≤ 255 → 1 ≤ s .r → s .r ≤ 3 → (s .t ≡ 0) ⊎ Prepared s
-    → 1 ≤ s .l → s .l ≤ 4096 → Runs s → Allowed s
+all-facts : (s : Shape) → 1 ≤ s .k → s .k ≤ mostData → 1 ≤ s .r → s .r ≤ mostParity → (s .t ≡ 0) ⊎ Prepared s
+    → 1 ≤ s .l → s .l ≤ mostLength → Runs s → Allowed s
 all-facts s k1 k2 r1 r2 m l1 l2 c =
     record {
       data-some = k1;
@@ -112,7 +112,7 @@ all-facts s k1 k2 r1 r2 m l1 l2 c =
       cut = c .exact;
       data-length = mul-le-mul k2 l2;
       parity-length = mul-le-mul r2 l2;
-      stripe-length = mul-le-mul {n₂ = 258} (omega arith) l2;
+      stripe-length = mul-le-mul {n₂ = mostColumns} (omega arith) l2;
     }
 
 module _ (s : Shape) (passed : shapeRefusal s ≡ 0) where
@@ -132,22 +132,22 @@ module _ (s : Shape) (passed : shapeRefusal s ≡ 0) where
   t-allowed : markAllowed (s .k) (s .r) (s .t) ≡ true
   t-allowed = and-right (dataAllowed (s .k) && parityAllowed (s .r)) _ (tests .0)
 
-  l-bounds : leb 1 (s .l) && leb (s .l) 4096 ≡ true
+  l-bounds : leb 1 (s .l) && leb (s .l) mostLength ≡ true
   l-bounds = and-left _ _ (tests .1)
 
   l-divided : (eqb (s .t) 0 || eqb (s .l % s .t) 0) ≡ true
-  l-divided = and-right (leb 1 (s .l) && leb (s .l) 4096) _ (tests .1)
+  l-divided = and-right (leb 1 (s .l) && leb (s .l) mostLength) _ (tests .1)
 
   marked : (s .t ≡ 0) ⊎ Prepared s
   marked = go (or-cases _ _ t-allowed)
     where
-      go : (eqb (s .t) 0 ≡ true) ⊎ (ltb (s .r) (s .t) && leb (s .t) 3 && leb (s .t) (s .k) ≡ true) → (s .t ≡ 0) ⊎ Prepared s
+      go : (eqb (s .t) 0 ≡ true) ⊎ (ltb (s .r) (s .t) && leb (s .t) mostRows && leb (s .t) (s .k) ≡ true) → (s .t ≡ 0) ⊎ Prepared s
       go (inl e) = inl (eqb-true _ _ e)
       go (inr e) =
           inr record {
             gains = ltb-true _ _ (and-left _ _ (and-left _ _ e));
             mark-most = leb-true _ _ (and-right (ltb (s .r) (s .t)) _ (and-left _ _ e));
-            mark-data = leb-true _ _ (and-right (ltb (s .r) (s .t) && leb (s .t) 3) _ e);
+            mark-data = leb-true _ _ (and-right (ltb (s .r) (s .t) && leb (s .t) mostRows) _ e);
           }
 
   cut-allowed : Runs s

@@ -8,6 +8,7 @@ use native.Mathlib.Nat.{le-of-suc-le-suc, not-suc-le-zero, eq-or-lt-of-le}
 use native.Mathlib.Omega.{arith}
 use lib.Dec.{T, leb, ltb, eqb, ltb→lt, eqb→eq, le→leb, eqb-refl}
 use Rattle.field.proofs.Below.{both, both-left, both-right, all, below}
+use Rattle.stripe.specs.Shape.{mostRows}
 
 abbrev pub oneIf : Bool → ℕ
 oneIf b = cond b 1 0
@@ -180,7 +181,7 @@ module _ (f : ℕ → Bool) (r e : ℕ) (t : T (spreadTest f r e)) (fits : e + c
 
 -- ---- for any lost rows
 
-three-of : (lost : ℕ → Bool) (j : ℕ) → j < 3 → three (lost 0) (lost 1) (lost 2) j ≡ lost j
+three-of : (lost : ℕ → Bool) (j : ℕ) → j < mostRows → three (lost 0) (lost 1) (lost 2) j ≡ lost j
 unfolding three
 three-of lost zero h = refl
 three-of lost (suc zero) h = refl
@@ -197,7 +198,7 @@ spread-same f g r e a d h w =
     }
 
 -- the key fact: as many rows survive at equal distances as there are data bytes to solve for
-pub survivors : (lost : ℕ → Bool) (r e : ℕ) → r ≤ 3 → e + countTrue lost r ≤ r → Spread lost r e (firstRow lost) (rowStep lost)
+pub survivors : (lost : ℕ → Bool) (r e : ℕ) → r ≤ mostRows → e + countTrue lost r ≤ r → Spread lost r e (firstRow lost) (rowStep lost)
 unfolding firstRow rowStep three
 survivors lost r e hr fits =
     spread-same (three (lost 0) (lost 1) (lost 2)) lost r e _ _ same

@@ -10,6 +10,7 @@ use Rattle.field.specs.Field.{_⊕_}
 use Rattle.field.specs.Bytes.{Bytes}
 use Rattle.field.specs.Row.{row}
 use Rattle.stripe.specs.Stripe.{among, Ascending}
+use Rattle.stripe.specs.Shape.{mostRows, mostData}
 use Rattle.stripe.proofs.Survivors.{Spread, firstRow, rowStep, survivors}
 use Rattle.stripe.proofs.Lost.{lostData, rowLost, lost-data-ascending, lost-data-among, lost-count}
 use Rattle.stripe.proofs.Errors.{AgreeOff, errorRow, errors, mended-own, mended-row-any, mended, mended-length, mended-bytes, mended-agrees, mended-row, only-mended}
@@ -30,7 +31,7 @@ pub word-mended-length : (k : ℕ) (es ms : List ℕ) (t : ℕ → ℕ) → leng
 unfolding wordMended
 word-mended-length k es ms t = mended-length _ _ (lostData k es) ms t
 
-module _ (k r : ℕ) (es : List ℕ) (k-most : k ≤ 255) (r-most : r ≤ 3) (asc : Ascending 0 (k + r) es) (few : length es ≤ r) where
+module _ (k r : ℕ) (es : List ℕ) (k-most : k ≤ mostData) (r-most : r ≤ mostRows) (asc : Ascending 0 (k + r) es) (few : length es ≤ r) where
   pub word-spread : Spread (rowLost k es) r (length (lostData k es)) (firstRow (rowLost k es)) (rowStep (rowLost k es))
   word-spread = survivors (rowLost k es) r (length (lostData k es)) r-most (omega (arith, lost-count k r 0 es asc))
 

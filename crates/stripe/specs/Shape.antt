@@ -4,21 +4,45 @@ use mathlib.Core.Bool.{Bool, cond, _&&_, _||_}
 use lib.Dec.{leb, ltb, eqb}
 use Rattle.stripe.specs.declared.Shape.{Shape}
 
+-- the most data columns
+abbrev pub mostData : ℕ
+mostData = 255
+
+-- the most parity columns whose parity is by rows: any k columns of more rows would not determine a codeword
+abbrev pub mostRows : ℕ
+mostRows = 3
+
+-- the most parity columns of a stripe
+abbrev pub mostParity : ℕ
+mostParity = mostRows
+
+-- the most columns of a stripe
+abbrev pub mostColumns : ℕ
+mostColumns = mostData + mostRows
+
+-- the most bytes of a column
+abbrev pub mostLength : ℕ
+mostLength = 4096
+
+-- the most bytes of all parity columns
+abbrev pub mostParityLength : ℕ
+mostParityLength = mostParity * mostLength
+
 -- k is 1 to 255
 abbrev pub dataAllowed : ℕ → Bool
-dataAllowed k = leb 1 k && leb k 255
+dataAllowed k = leb 1 k && leb k mostData
 
 -- r is 1 to 3
 abbrev pub parityAllowed : ℕ → Bool
-parityAllowed r = leb 1 r && leb r 3
+parityAllowed r = leb 1 r && leb r mostParity
 
 -- t is 0, or r < t <= 3 with t <= k
 abbrev pub markAllowed : ℕ → ℕ → ℕ → Bool
-markAllowed k r t = eqb t 0 || (ltb r t && leb t 3 && leb t k)
+markAllowed k r t = eqb t 0 || (ltb r t && leb t mostRows && leb t k)
 
 -- L is 1 to 4,096, and divisible by t if t is not 0
 abbrev pub lengthAllowed : ℕ → ℕ → Bool
-lengthAllowed t l = leb 1 l && leb l 4096 && (eqb t 0 || eqb (l % t) 0)
+lengthAllowed t l = leb 1 l && leb l mostLength && (eqb t 0 || eqb (l % t) 0)
 
 -- the refusal of a shape: 1 for k, r or t, 2 for L, 0 for none
 unfoldable pub shapeRefusal : Shape → ℕ

@@ -5,6 +5,17 @@ ghost use mathlib.Core.Path.{_≡_};
 ghost use Rattle.stripe.specs.Shape.{markAllowed, lengthAllowed, shapeRefusal};
 ghost use Rattle.stripe.specs.Stripe.{among};
 
+// The most data columns.
+pub const MOST_DATA: usize = 255;
+// The most parity columns whose parity is by rows.
+pub const MOST_ROWS: usize = 3;
+// The most parity columns of a stripe.
+pub const MOST_PARITY: usize = MOST_ROWS;
+// The most bytes of a column.
+pub const MOST_LENGTH: usize = 4096;
+// The most bytes of all parity columns.
+pub const MOST_PARITY_LENGTH: usize = MOST_PARITY * MOST_LENGTH;
+
 // The numbers of a stripe: data columns, parity columns, the mark (0 for a plain stripe, else the parity count that the
 // stripe is prepared to gain), and the bytes of a column. Values are made by `Shape::new` alone.
 pub struct Shape {
@@ -33,13 +44,13 @@ impl Shape {
         if k < 1 {
             return 1;
         }
-        if 255 < k {
+        if MOST_DATA < k {
             return 1;
         }
         if r < 1 {
             return 1;
         }
-        if 3 < r {
+        if MOST_PARITY < r {
             return 1;
         }
         if !mark_allowed(k, r, t) {
@@ -62,7 +73,7 @@ fn mark_allowed(k: usize, r: usize, t: usize) -> bool
     if t <= r {
         return false;
     }
-    if 3 < t {
+    if MOST_ROWS < t {
         return false;
     }
     t <= k
@@ -75,7 +86,7 @@ fn length_allowed(t: usize, l: usize) -> bool
     if l < 1 {
         return false;
     }
-    if 4096 < l {
+    if MOST_LENGTH < l {
         return false;
     }
     if t == 0 {

@@ -20,7 +20,7 @@ use Rattle.lanes.proofs.Onto.{onto-at, onto-length}
 use Rattle.lanes.proofs.Onto.{map-at}
 use Rattle.lanes.proofs.Parts.{part-length, part-at, back-length, back-inside, back-outside}
 use Rattle.stripe.specs.declared.Shape.{Shape}
-use Rattle.stripe.specs.Shape.{shapeRefusal, dataLength, parityLength, stripeLength}
+use Rattle.stripe.specs.Shape.{shapeRefusal, dataLength, parityLength, stripeLength, mostData, mostParity}
 use Rattle.stripe.specs.Stripe.{parityByte, parity, dataOf, parityOf}
 use Rattle.stripe.proofs.Allowed.{allowed}
 use Rattle.stripe.proofs.Lent.{lent-both}
@@ -159,13 +159,13 @@ pub divide-done : (l r x j : ℕ) (ys zs : List ℕ) → r ≤ j → DividedTo l
 divide-done l r x j ys zs e h = record { long = h .long; at = λ i y less k. h .done i y (omega (arith, e, less)) k }
 
 -- the exponents of the weights are small
-pub weights-small : (s : Shape) (x d p : ℕ) → Lent s x d p → s .r * x ≤ 765
+pub weights-small : (s : Shape) (x d p : ℕ) → Lent s x d p → s .r * x ≤ mostParity * mostData
 weights-small s x d p h =
     let a = allowed s (h .shape) in
-    let few : x ≤ 255 = go (h .apart) in
+    let few : x ≤ mostData = go (h .apart) in
     omega (arith, mul-le-mul-right x (a .parity-most), few)
   where
-    go : (x ≡ 0) ⊎ ((s .t ≡ 0) × (x < s .k)) → x ≤ 255
+    go : (x ≡ 0) ⊎ ((s .t ≡ 0) × (x < s .k)) → x ≤ mostData
     go (inl e) = omega arith
     go (inr e) = omega (arith, e .1, allowed s (h .shape) .data-most)
 

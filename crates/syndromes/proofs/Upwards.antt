@@ -22,7 +22,7 @@ use Rattle.lanes.specs.Lanes.{onto}
 use Rattle.lanes.proofs.Onto.{onto-at, onto-length}
 use Rattle.lanes.proofs.Parts.{part-length, part-at, back-length, back-inside, back-outside}
 use Rattle.stripe.specs.declared.Shape.{Shape}
-use Rattle.stripe.specs.Shape.{shapeRefusal}
+use Rattle.stripe.specs.Shape.{shapeRefusal, mostData, mostParity, mostLength}
 use Rattle.stripe.specs.Stripe.{across, rowAt, parity}
 use Rattle.stripe.specs.Column.{lentRefusal}
 use Rattle.stripe.proofs.Allowed.{allowed}
@@ -262,7 +262,7 @@ across-part xs l p a m n h e =
     ap (λ (z : ℕ). across (take z (drop a xs)) l p 0 m) e ∙ across-take (drop a xs) l p m h ∙ across-drop xs l p a 0 m
     ∙ ap (λ (z : ℕ). across xs l p z m) (omega arith)
 
-plain-allowed : (s : Shape) → 1 ≤ s .k → s .k ≤ 255 → 1 ≤ s .r → s .r ≤ 3 → s .t ≡ 0 → 1 ≤ s .l → s .l ≤ 4096 → shapeRefusal s ≡ 0
+plain-allowed : (s : Shape) → 1 ≤ s .k → s .k ≤ mostData → 1 ≤ s .r → s .r ≤ mostParity → s .t ≡ 0 → 1 ≤ s .l → s .l ≤ mostLength → shapeRefusal s ≡ 0
 unfolding shapeRefusal
 plain-allowed s k1 k2 r1 r2 t l1 l2 =
     simp (le-leb _ _ k1, le-leb _ _ k2, le-leb _ _ r1, le-leb _ _ r2, le-leb _ _ l1, le-leb _ _ l2, eq-eqb _ _ t)

@@ -7,6 +7,7 @@ use lib.ListN.{length, getD}
 use Rattle.field.specs.Field.{_⊕_, _⊗_, gpow}
 use Rattle.field.specs.Row.{row}
 use Rattle.stripe.specs.Stripe.{across}
+use Rattle.stripe.specs.Shape.{mostData, mostRows, mostLength}
 
 -- for each of the first r rows ts holds what the row lacks of the parity byte, by the data as they lie, over the weight g^(j*x) of column x
 pub record Apart (xs : List ℕ) (k l r x : ℕ) (ts : List ℕ) : Type 0 where
@@ -18,11 +19,11 @@ pub record Parted (xs : List ℕ) (k l r x n : ℕ) : Type 0 where
   pub long : length xs ≡ (k + r) * l
   pub room : n ≡ r * l
   pub some : 2 ≤ r
-  pub most : r ≤ 3
+  pub most : r ≤ mostRows
   pub within : x < k
-  pub wide : k ≤ 255
+  pub wide : k ≤ mostData
   pub length-some : 64 ≤ l
-  pub length-most : l ≤ 4096
+  pub length-most : l ≤ mostLength
 
 -- 64 places from `from` on, of a stripe that has r parity columns at least
 pub record Places (xs : List ℕ) (k l r x from : ℕ) : Type 0 where

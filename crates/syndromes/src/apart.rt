@@ -13,6 +13,7 @@ ghost use mathlib.Core.Path.{_≡_};
 ghost use Prim.Native.Nat.{ℕ, _+_, _*_, _≤_, _<_};
 ghost use lib.ListN.{length, getD};
 ghost use Rattle.syndromes.specs.Apart.{Apart, Parted, Places, BelowIn, Plus, RowsTo};
+ghost use Rattle.stripe.specs.Shape.{mostRows};
 
 // What each of the first r rows lacks of the parity as it lies, over its weight g^(j*x) of column x.
 pub(crate) fn fill_apart(stripe: &[u8], k: usize, l: usize, r: usize, x: usize, out: &mut [u8])
@@ -28,7 +29,7 @@ pub(crate) fn fill_apart(stripe: &[u8], k: usize, l: usize, r: usize, x: usize, 
 
 // To the rows of the columns from x on, the parity and the columns before x.
 fn add_below(stripe: &[u8], k: usize, l: usize, r: usize, x: usize, out: &mut [u8])
-    requires { ⌜ (length (now stripe) ≡ (k + r) * l) × ((x ≤ k) × ((2 ≤ r) × ((r ≤ 3) × ((64 ≤ l) × RowsTo (now stripe) k l r x 0 (now out))))) ⌝ }
+    requires { ⌜ (length (now stripe) ≡ (k + r) * l) × ((x ≤ k) × ((2 ≤ r) × ((r ≤ mostRows) × ((64 ≤ l) × RowsTo (now stripe) k l r x 0 (now out))))) ⌝ }
     ensures { λ _. ⌜ RowsTo (now (stripe .entry)) k l r x l (now (out .exit)) ⌝ }
 {
     if r < 3 {

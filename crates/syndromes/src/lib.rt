@@ -14,6 +14,7 @@ ghost use mathlib.Core.Bool.{true};
 ghost use Prim.Native.Nat.{_*_, _≤_};
 ghost use lib.ListN.{length};
 ghost use Rattle.syndromes.specs.Syndromes.{Lent, Syndromes, Filled, Says, InBlocks, Divided};
+ghost use Rattle.stripe.specs.Shape.{mostData, mostParity};
 
 // What each row lacks of the parity as it lies, over the weight that column x has in it; nothing is written where the stripe, the
 // buffer or x is not as `Lent` says.
@@ -87,7 +88,7 @@ fn fill_whole(s: Shape, x: usize, stripe: &[u8], out: &mut [u8])
 
 // Each row over its weight of column x, by a product.
 fn divide(s: Shape, x: usize, out: &mut [u8])
-    requires { ⌜ (length (now out) ≡ s .r * s .l) × (s .r * x ≤ 765) ⌝ }
+    requires { ⌜ (length (now out) ≡ s .r * s .l) × (s .r * x ≤ mostParity * mostData) ⌝ }
     ensures { λ _. ⌜ Divided (s .l) (s .r) x (now (out .entry)) (now (out .exit)) ⌝ }
 {
     if x == 0 {

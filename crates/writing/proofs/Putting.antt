@@ -12,7 +12,7 @@ use lib.ListN.{length, getD, take, drop, length-append, length-drop, drop-of-len
 use lib.Seq.{sets, length-take-le}
 use borrow.Author.Tests.{le-leb, lt-leb, lt-ltb, le-ltb, eq-eqb, ne-eqb, leb-true, ltb-true, eqb-true}
 use Rattle.stripe.specs.declared.Shape.{Shape}
-use Rattle.stripe.specs.Shape.{columns, stripeLength}
+use Rattle.stripe.specs.Shape.{columns, stripeLength, mostRows}
 use Rattle.stripe.specs.Stripe.{among, Ascending}
 use Rattle.stripe.proofs.Allowed.{Allowed}
 use Rattle.writing.specs.declared.Written.{Written}
@@ -123,7 +123,7 @@ record-bytes s es xs h e =
 
 -- ---- an allowed shape's numbers fit 32 bits
 
-pub mark-small : (s : Shape) → Allowed s → s .t ≤ 3
+pub mark-small : (s : Shape) → Allowed s → s .t ≤ mostRows
 mark-small s a = ⊎-elim (λ e. omega arith) (λ p. p .mark-most) (a .mark)
 
 -- ---- numbers put one after the other

@@ -9,6 +9,7 @@ use Rattle.plan.proofs.Refusals.{shape-passed, no-bytes}
 use borrow.Author.Needs.{needs}
 use Rattle.counts.proofs.bytes_read.Statement.{statement}
 use Rattle.counts.proofs.bytes_read.Tie as tie
+use Rattle.stripe.specs.Shape.{mostData, mostLength}
 
 fold-refusal-requires : tie.Need-fold-refusal-requires
 fold-refusal-requires c κs = search needs
@@ -22,7 +23,7 @@ bytes-each-requires c κs = (shape-passed _ _ _ (sym (c .before .fold-refusal .e
 mul-t7 : tie.Need-mul-t7
 mul-t7 c =
     let p = sym (c .before .before .fold-refusal .ensures) ∙ c .before .if1 .left in
-    let h = subst (λ (x : ℕ). c .before .before .before .args .stripes * x ≤ 1044480) (sym (c .bytes-each .ensures)) (bytes-small _ _ _ p) in
+    let h = subst (λ (x : ℕ). c .before .before .before .args .stripes * x ≤ mostData * mostLength) (sym (c .bytes-each .ensures)) (bytes-small _ _ _ p) in
     fits _ (omega (arith, h))
 
 returns-2 : tie.Need-returns-2

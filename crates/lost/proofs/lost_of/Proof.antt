@@ -6,19 +6,22 @@ use lib.ListN.{length, getD, length-set}
 use lib.Seq.{getD-set-other}
 use borrow.Author.Needs.{needs}
 use Rattle.lost.specs.Positions.{positions}
+use Rattle.lost.specs.Lost.{capacity}
 use Rattle.lost.proofs.Listed.{stored, made, early, zeros}
 use Rattle.lost.proofs.lost_of.Statement.{statement}
 use Rattle.lost.proofs.lost_of.Tie as tie
+use Rattle.field.specs.Bytes.{tabulate}
 
 abbrev Inv-loop : tie.InvT-loop
 Inv-loop list at₀ count i₀ at i =
-    (i ≤ 3) × ((count ≡ length list / 2) × ((length at ≡ 3) × (((j : ℕ) → j < i → getD at j 0 ≡ getD (positions list) j 0) × ((j : ℕ) → i ≤ j → getD at j 0 ≡ 0))))
+    (i ≤ capacity) × ((count ≡ length list / 2) × ((length at ≡ capacity) × (((j : ℕ) → j < i → getD at j 0 ≡ getD (positions list) j 0) × ((j : ℕ) → i ≤ j → getD at j 0 ≡ 0))))
 
 abbrev μ-loop : tie.MeasureT-loop
-μ-loop list at₀ count i₀ at i = 3 - i
+μ-loop list at₀ count i₀ at i = capacity - i
 
 loop-holds : tie.Need-loop-holds Inv-loop μ-loop
-loop-holds c = (search needs, (search needs, (refl, (λ j w. search needs, λ j w. zeros j))))
+unfolding tabulate
+loop-holds c = (search needs, (search needs, (refl, (λ j w. search needs, λ j w. zeros capacity j))))
 
 returns : tie.Need-returns Inv-loop μ-loop
 returns c =

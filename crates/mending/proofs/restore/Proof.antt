@@ -5,13 +5,14 @@ use mathlib.Core.Path.{sym}
 use native.Mathlib.Omega.{arith}
 use lib.Seq.{length-take-le}
 use Rattle.stripe.specs.declared.Shape.{Shape}
+use Rattle.stripe.specs.Shape.{mostParityLength}
 use Rattle.lost.specs.declared.Lost.{Lost}
 use Rattle.mending.specs.Restore.{Ready}
 use Rattle.stripe.proofs.Allowed.{allowed}
 use Rattle.mending.proofs.restore.Statement.{statement}
 use Rattle.mending.proofs.restore.Tie as tie
 
-fits : (s : Shape) {lost : Lost} → Ready s lost → s .r * s .l ≤ 12288
+fits : (s : Shape) {lost : Lost} → Ready s lost → s .r * s .l ≤ mostParityLength
 fits s h = allowed s (h .shape) .parity-length
 
 mul-n : tie.Need-mul-n

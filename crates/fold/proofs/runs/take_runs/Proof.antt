@@ -7,6 +7,7 @@ use lib.ListN.{length}
 use denote.Ref.{now}
 use borrow.Author.Needs.{needs}
 use Rattle.stripe.proofs.Allowed.{allowed, run-length-by}
+use Rattle.stripe.specs.Shape.{mostRows}
 use Rattle.lanes.proofs.Parts.{part-length}
 use Rattle.plan.proofs.Foldable.{new-limit}
 use Rattle.plan.proofs.Bounds.{fits, data-small}
@@ -31,8 +32,8 @@ mul-all : tie.Need-mul-all Inv-loop μ-loop
 mul-all c =
     let z = c .before .before .before .before .before in
     let a = allowed _ (z .pre .0 .shape) in
-    let r = subst (λ (x : ℕ). x ≤ 3) (sym (c .before .run-count .ensures)) (a .runs-most) in
-    fits _ (omega (arith, mul-le-mul {n₂ = 3} (new-limit (z .args .s) (z .args .f) (z .pre .0 .shape) (z .pre .0 .new)) r))
+    let r = subst (λ (x : ℕ). x ≤ mostRows) (sym (c .before .run-count .ensures)) (a .runs-most) in
+    fits _ (omega (arith, mul-le-mul {n₂ = mostRows} (new-limit (z .args .s) (z .args .f) (z .pre .0 .shape) (z .pre .0 .new)) r))
 
 loop-holds : tie.Need-loop-holds Inv-loop μ-loop
 loop-holds c =
@@ -97,8 +98,8 @@ mul-take-share c =
     let t = c .before .before .loop-test .taken in
     let w = new-limit (z .args .s) (z .args .f) (z .pre .0 .shape) (z .pre .0 .new) in
     let j = row-lt (z .args .s) (z .args .f) (z .pre .0) (z .args .first) (now (z .args .d)) (now (z .args .rows)) (now (z .args .parity)) (z .pre .1 .1 .0) _ _ ce qe (l .i) t in
-    let h : l .i / (c .before .before .before .before .before .run-count .result) ≤ 3 = omega (arith, j) in
-    fits _ (omega (arith, mul-le-mul {n₂ = 3} h (data-small _ (z .pre .0 .shape))))
+    let h : l .i / (c .before .before .before .before .before .run-count .result) ≤ mostRows = omega (arith, j) in
+    fits _ (omega (arith, mul-le-mul {n₂ = mostRows} h (data-small _ (z .pre .0 .shape))))
 
 take-share-requires : tie.Need-take-share-requires Inv-loop μ-loop
 take-share-requires c κs =
@@ -114,8 +115,8 @@ add-i c =
     let z = c .before .before .before .before .before .before .before .before .before .before .before .before in
     let t = c .before .before .before .before .before .loop-test .taken in
     let a = allowed _ (z .pre .0 .shape) in
-    let r = subst (λ (x : ℕ). x ≤ 3) (sym (c .before .before .before .before .before .before .before .before .run-count .ensures)) (a .runs-most) in
-    fits _ (omega (arith, t, mul-le-mul {n₂ = 3} (new-limit (z .args .s) (z .args .f) (z .pre .0 .shape) (z .pre .0 .new)) r))
+    let r = subst (λ (x : ℕ). x ≤ mostRows) (sym (c .before .before .before .before .before .before .before .before .run-count .ensures)) (a .runs-most) in
+    fits _ (omega (arith, t, mul-le-mul {n₂ = mostRows} (new-limit (z .args .s) (z .args .f) (z .pre .0 .shape) (z .pre .0 .new)) r))
 
 loop-less : tie.Need-loop-less Inv-loop μ-loop
 loop-less c = let t = c .before .before .before .before .before .loop-test .taken in omega (arith, t)

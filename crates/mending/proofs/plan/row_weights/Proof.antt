@@ -8,9 +8,10 @@ use Rattle.field.specs.Field.{gpow}
 use Rattle.mending.proofs.Planned.{weights-turn, weights-done, small-product}
 use Rattle.mending.proofs.plan.row_weights.Statement.{statement}
 use Rattle.mending.proofs.plan.row_weights.Tie as tie
+use Rattle.lost.specs.Lost.{capacity}
 
 abbrev Inv-loop : tie.InvT-loop
-Inv-loop p x j at w₀ v₀ w v = (v ≤ p .count) × ((length w ≡ 3) × ((u : ℕ) → u < v → getD w u 0 ≡ gpow ((getD (p .lost .at) u 0 - x) * j)))
+Inv-loop p x j at w₀ v₀ w v = (v ≤ p .count) × ((length w ≡ capacity) × ((u : ℕ) → u < v → getD w u 0 ≡ gpow ((getD (p .lost .at) u 0 - x) * j)))
 
 abbrev μ-loop : tie.MeasureT-loop
 μ-loop p x j at w₀ v₀ w v = p .count - v

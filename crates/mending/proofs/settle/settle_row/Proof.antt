@@ -7,6 +7,7 @@ use native.Mathlib.Omega.{arith}
 use lib.ListN.{length}
 use Rattle.stripe.proofs.Allowed.{allowed}
 use Rattle.stripe.proofs.Errors.{points}
+use Rattle.stripe.specs.Shape.{mostParity, mostLength, mostParityLength}
 use Rattle.mending.specs.Slots.{Sources, Gathered}
 use Rattle.mending.specs.Plan.{less, gone}
 use Rattle.mending.proofs.Planned.{first-few, step-few}
@@ -29,7 +30,7 @@ mul-add-row : tie.Need-mul-add-row
 mul-add-row c =
     let w = c .before .before .before .before .pre in
     let f = allowed (c .before .before .before .before .args .s) (w .0 .shape) in
-    let most : c .before .before .before .before .args .j * c .before .before .before .before .args .s .l ≤ 3 * 4096 = mul-le-mul {n₂ = 3} {m₂ = 4096} (omega (arith, w .1, f .parity-most)) (f .length-most) in
+    let most : c .before .before .before .before .args .j * c .before .before .before .before .args .s .l ≤ mostParityLength = mul-le-mul {n₂ = mostParity} {m₂ = mostLength} (omega (arith, w .1, f .parity-most)) (f .length-most) in
     omega arith
 
 add-row-requires : tie.Need-add-row-requires

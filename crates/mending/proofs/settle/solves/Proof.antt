@@ -8,6 +8,8 @@ use native.Mathlib.Nat.{mul-le-mul}
 use Rattle.mending.proofs.Settled.{solver-turn}
 use Rattle.mending.proofs.settle.solves.Statement.{statement}
 use Rattle.mending.proofs.settle.solves.Tie as tie
+use Rattle.stripe.specs.Shape.{mostRows}
+use Rattle.lost.specs.Lost.{capacity}
 
 abbrev Inv-loop : tie.InvT-loop
 Inv-loop p j v₀ v = (v ≤ p .count) × ((u : ℕ) → u < v → p .first + p .step * u ≡ j → ⊥)
@@ -19,10 +21,10 @@ loop-holds : tie.Need-loop-holds Inv-loop μ-loop
 loop-holds c = (search needs, λ u l. absurd (omega arith))
 
 mul-if2 : tie.Need-mul-if2 Inv-loop μ-loop
-mul-if2 c = let most : c .before .before .before .before .args .p .step * c .before .before .before .loop .v ≤ 3 * 3 = mul-le-mul {m₂ = 3} (c .before .before .before .before .pre .1 .1) (omega (arith, c .before .before .before .loop .inv .0, c .before .before .before .before .pre .0)) in omega arith
+mul-if2 c = let most : c .before .before .before .before .args .p .step * c .before .before .before .loop .v ≤ mostRows * capacity = mul-le-mul {m₂ = capacity} (c .before .before .before .before .pre .1 .1) (omega (arith, c .before .before .before .loop .inv .0, c .before .before .before .before .pre .0)) in omega arith
 
 add-if2 : tie.Need-add-if2 Inv-loop μ-loop
-add-if2 c = let most : c .before .before .before .before .before .args .p .step * c .before .before .before .before .loop .v ≤ 3 * 3 = mul-le-mul {m₂ = 3} (c .before .before .before .before .before .pre .1 .1) (omega (arith, c .before .before .before .before .loop .inv .0, c .before .before .before .before .before .pre .0)) in omega (arith, c .before .before .before .before .before .pre .1 .0)
+add-if2 c = let most : c .before .before .before .before .before .args .p .step * c .before .before .before .before .loop .v ≤ mostRows * capacity = mul-le-mul {m₂ = capacity} (c .before .before .before .before .before .pre .1 .1) (omega (arith, c .before .before .before .before .loop .inv .0, c .before .before .before .before .before .pre .0)) in omega (arith, c .before .before .before .before .before .pre .1 .0)
 
 returns : tie.Need-returns Inv-loop μ-loop
 returns c = record { so = λ t. (c .before .before .before .before .before .loop .v, (c .before .before .before .if1 .taken, c .if2 .taken)); not-so = λ t. absurd (true≢false t) }

@@ -8,10 +8,11 @@ use Rattle.field.specs.Field.{_⊕_, _⊗_}
 use Rattle.mending.proofs.Slots.{setting-turn}
 use Rattle.mending.proofs.solve.set_apart.Statement.{statement}
 use Rattle.mending.proofs.solve.set_apart.Tie as tie
+use Rattle.lost.specs.Lost.{capacity}
 
 abbrev Inv-loop : tie.InvT-loop
 Inv-loop points weights w₀ v₀ w v =
-    (1 ≤ v) × ((length w ≡ 3) × ((u : ℕ) → u + 1 < v → getD w u 0 ≡ getD weights (u + 1) 0 ⊗ (getD points (u + 1) 0 ⊕ getD points 0 0)))
+    (1 ≤ v) × ((length w ≡ capacity) × ((u : ℕ) → u + 1 < v → getD w u 0 ≡ getD weights (u + 1) 0 ⊗ (getD points (u + 1) 0 ⊕ getD points 0 0)))
 
 abbrev μ-loop : tie.MeasureT-loop
 μ-loop points weights w₀ v₀ w v = length points - v

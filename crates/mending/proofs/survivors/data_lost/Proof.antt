@@ -9,6 +9,7 @@ use lib.ListN.{getD, length, length-map}
 use denote.Laws.{Is}
 use denote.Struct.Laws as LL
 use Rattle.lost.specs.declared.Lost.{Lost}
+use Rattle.lost.specs.Lost.{capacity}
 use Rattle.lost.proofs.Lost as T
 use Rattle.lost.proofs.Lost.Laws as T′
 use Rattle.mending.proofs.Among.{data-first}
@@ -16,11 +17,11 @@ use Rattle.mending.proofs.survivors.data_lost.Statement.{statement}
 use Rattle.mending.proofs.survivors.data_lost.Tie as tie
 
 -- what owning a `Lost` tells of the length of its array
-three-at : (l : Lost) → Is T.the-row l (LL.val T.the-type T′.the-laws l ∷ []) → length (l .at) ≡ 3
-three-at l p = sym (length-map (l .at) (λ v. v)) ∙ LL.owed T.the-type T′.the-laws l _ p .0 .1 .0 .1
+room-at : (l : Lost) → Is T.the-row l (LL.val T.the-type T′.the-laws l ∷ []) → length (l .at) ≡ capacity
+room-at l p = sym (length-map (l .at) (λ v. v)) ∙ LL.owed T.the-type T′.the-laws l _ p .0 .1 .0 .1
 
 abbrev Inv-loop : tie.InvT-loop
-Inv-loop k n at count v₀ v = (v ≤ count) × ((count ≤ 3) × ((u : ℕ) → u < v → getD at u 0 < k))
+Inv-loop k n at count v₀ v = (v ≤ count) × ((count ≤ capacity) × ((u : ℕ) → u < v → getD at u 0 < k))
 
 abbrev μ-loop : tie.MeasureT-loop
 μ-loop k n at count v₀ v = count - v
@@ -38,7 +39,7 @@ returns : tie.Need-returns Inv-loop μ-loop
 returns c =
     let a = c .before .before .before .before .args in (
       omega arith,
-      data-first (a .k) 0 (a .n) (a .lost .at) (a .lost .count) (c .before .before .loop .v) (c .before .before .before .before .pre .1) (omega (arith, three-at (a .lost) (c .before .before .before .before .good .0), c .before .before .before .before .pre .0)) (omega arith)
+      data-first (a .k) 0 (a .n) (a .lost .at) (a .lost .count) (c .before .before .loop .v) (c .before .before .before .before .pre .1) (omega (arith, room-at (a .lost) (c .before .before .before .before .good .0), c .before .before .before .before .pre .0)) (omega arith)
           (c .before .before .loop .inv .1 .1) (λ h. c .if1 .taken),
     )
 
@@ -55,7 +56,7 @@ returns-2 : tie.Need-returns-2 Inv-loop μ-loop
 returns-2 c =
     let a = c .before .before .before .args in (
       omega arith,
-      data-first (a .k) 0 (a .n) (a .lost .at) (a .lost .count) (c .before .loop .v) (c .before .before .before .pre .1) (omega (arith, three-at (a .lost) (c .before .before .before .good .0), c .before .before .before .pre .0)) (omega arith)
+      data-first (a .k) 0 (a .n) (a .lost .at) (a .lost .count) (c .before .loop .v) (c .before .before .before .pre .1) (omega (arith, room-at (a .lost) (c .before .before .before .good .0), c .before .before .before .pre .0)) (omega arith)
           (c .before .loop .inv .1 .1) (λ h. absurd (omega arith)),
     )
 

@@ -9,6 +9,7 @@ use lib.ListN.{getD, length, length-map}
 use denote.Laws.{Is}
 use denote.Struct.Laws as LL
 use Rattle.lost.specs.declared.Lost.{Lost}
+use Rattle.lost.specs.Lost.{capacity}
 use Rattle.lost.proofs.Lost as T
 use Rattle.lost.proofs.Lost.Laws as T′
 use Rattle.mending.proofs.Among.{found, none}
@@ -16,11 +17,11 @@ use Rattle.mending.proofs.survivors.is_lost.Statement.{statement}
 use Rattle.mending.proofs.survivors.is_lost.Tie as tie
 
 -- what owning a `Lost` tells of the length of its array
-three-at : (l : Lost) → Is T.the-row l (LL.val T.the-type T′.the-laws l ∷ []) → length (l .at) ≡ 3
-three-at l p = sym (length-map (l .at) (λ v. v)) ∙ LL.owed T.the-type T′.the-laws l _ p .0 .1 .0 .1
+room-at : (l : Lost) → Is T.the-row l (LL.val T.the-type T′.the-laws l ∷ []) → length (l .at) ≡ capacity
+room-at l p = sym (length-map (l .at) (λ v. v)) ∙ LL.owed T.the-type T′.the-laws l _ p .0 .1 .0 .1
 
 abbrev Inv-loop : tie.InvT-loop
-Inv-loop c at count v₀ v = (v ≤ count) × ((count ≤ 3) × ((u : ℕ) → u < v → getD at u 0 ≡ c → ⊥))
+Inv-loop c at count v₀ v = (v ≤ count) × ((count ≤ capacity) × ((u : ℕ) → u < v → getD at u 0 ≡ c → ⊥))
 
 abbrev μ-loop : tie.MeasureT-loop
 μ-loop c at count v₀ v = count - v
@@ -37,7 +38,7 @@ array-read-if1 c = search needs
 returns : tie.Need-returns Inv-loop μ-loop
 returns c =
     let a = c .before .before .before .before .args in
-    found (a .lost .at) (a .lost .count) (a .c) (c .before .before .loop .v) (search needs) (omega (arith, three-at (a .lost) (c .before .before .before .before .good .0))) (c .if1 .taken)
+    found (a .lost .at) (a .lost .count) (a .c) (c .before .before .loop .v) (search needs) (omega (arith, room-at (a .lost) (c .before .before .before .before .good .0))) (c .if1 .taken)
 
 add-v : tie.Need-add-v Inv-loop μ-loop
 add-v c = search needs
@@ -51,7 +52,7 @@ loop-again c = (search needs, (search needs, below-more _ _ (c .before .before .
 returns-2 : tie.Need-returns-2 Inv-loop μ-loop
 returns-2 c =
     let a = c .before .before .before .args in
-    none (a .lost .at) (a .lost .count) (a .c) (λ j w. c .before .loop .inv .1 .1 j (omega arith)) (omega (arith, three-at (a .lost) (c .before .before .before .good .0)))
+    none (a .lost .at) (a .lost .count) (a .c) (λ j w. c .before .loop .inv .1 .1 j (omega arith)) (omega (arith, room-at (a .lost) (c .before .before .before .good .0)))
 
 pub is-lost-spec : {M : Type 1} → statement M
 is-lost-spec =

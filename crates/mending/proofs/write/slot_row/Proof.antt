@@ -7,12 +7,14 @@ use native.Mathlib.Nat.{mul-le-mul}
 use borrow.Author.Tests.{lt-ltb, le-ltb}
 use Rattle.mending.proofs.write.slot_row.Statement.{statement}
 use Rattle.mending.proofs.write.slot_row.Tie as tie
+use Rattle.stripe.specs.Shape.{mostRows}
+use Rattle.lost.specs.Lost.{capacity}
 
 mul-result : tie.Need-mul-result
-mul-result c = let most : c .before .before .before .args .p .step * c .before .before .before .args .v ≤ 3 * 3 = mul-le-mul (c .before .before .before .pre .1 .0) (c .before .before .before .pre .1 .1 .0) in omega arith
+mul-result c = let most : c .before .before .before .args .p .step * c .before .before .before .args .v ≤ mostRows * capacity = mul-le-mul (c .before .before .before .pre .1 .0) (c .before .before .before .pre .1 .1 .0) in omega arith
 
 add-result : tie.Need-add-result
-add-result c = let most : c .before .before .before .before .args .p .step * c .before .before .before .before .args .v ≤ 3 * 3 = mul-le-mul (c .before .before .before .before .pre .1 .0) (c .before .before .before .before .pre .1 .1 .0) in omega (arith, c .before .before .before .before .pre .0)
+add-result c = let most : c .before .before .before .before .args .p .step * c .before .before .before .before .args .v ≤ mostRows * capacity = mul-le-mul (c .before .before .before .before .pre .1 .0) (c .before .before .before .before .pre .1 .1 .0) in omega (arith, c .before .before .before .before .pre .0)
 
 returns : tie.Need-returns
 returns c = let a = c .before .before .before .before .args in sym (ap (λ (b : Bool). cond b (a .p .first + a .p .step * a .v) (a .i - a .s .k)) (lt-ltb _ _ (c .before .before .if1 .taken)))

@@ -20,6 +20,7 @@ use Rattle.field.proofs.Mul.{gpow-lt, gpow-pos, gpow-add, gpow-inj, power-gpow}
 use Rattle.field.proofs.Powers.{square-inj}
 use Rattle.field.proofs.Rows.{row-set, row-lt}
 use Rattle.field.proofs.Solve.{Away, Apart, Weights, solve-length, solve-bytes, solve-same, solve-moment, solved}
+use Rattle.stripe.specs.Shape.{mostData}
 use Rattle.stripe.specs.Stripe.{among, Ascending}
 use Rattle.stripe.proofs.Lost.{ascending-at, not-among, among-nil, among-other}
 
@@ -190,8 +191,8 @@ points-weights d [] v l = absurd (not-suc-le-zero l)
 points-weights d (i ∷ is) zero l = gpow-pos (d * i)
 points-weights d (i ∷ is) (suc v) l = points-weights d is v (le-of-suc-le-suc l)
 
--- distinct positions below 255 have distinct points, at distance 1 and, since squares tell, at distance 2
-pub point-inj : (d i j : ℕ) → 1 ≤ d → d ≤ 2 → i < 255 → j < 255 → gpow (d * i) ≡ gpow (d * j) → i ≡ j
+-- distinct positions below the most data columns have distinct points, at distance 1 and, since squares tell, at distance 2
+pub point-inj : (d i j : ℕ) → 1 ≤ d → d ≤ 2 → i < mostData → j < mostData → gpow (d * i) ≡ gpow (d * j) → i ≡ j
 point-inj zero i j p q hi hj e = omega arith
 point-inj (suc zero) i j p q hi hj e = gpow-inj i j hi hj (ap gpow (sym (ℕ-one-mul i)) ∙ e ∙ ap gpow (ℕ-one-mul j))
 point-inj (suc (suc zero)) i j p q hi hj e = gpow-inj i j hi hj (square-inj (gpow i) (gpow j) (gpow-lt i) (gpow-lt j) (sym (square i) ∙ e ∙ square j))
@@ -200,7 +201,7 @@ point-inj (suc (suc zero)) i j p q hi hj e = gpow-inj i j hi hj (square-inj (gpo
     square n = ap gpow (omega arith) ∙ gpow-add n n
 point-inj (suc (suc (suc d))) i j p q hi hj e = omega arith
 
-points-away : (d i a k : ℕ) (is : List ℕ) → 1 ≤ d → d ≤ 2 → k ≤ 255 → Ascending a k is → i < a → i < k → Away (gpow (d * i)) (points d is)
+points-away : (d i a k : ℕ) (is : List ℕ) → 1 ≤ d → d ≤ 2 → k ≤ mostData → Ascending a k is → i < a → i < k → Away (gpow (d * i)) (points d is)
 unfolding points Ascending
 points-away d i a k [] p q hk w l m v h e = not-suc-le-zero h
 points-away d i a k (j ∷ is) p q hk w l m zero h e =
@@ -208,7 +209,7 @@ points-away d i a k (j ∷ is) p q hk w l m zero h e =
 points-away d i a k (j ∷ is) p q hk w l m (suc v) h e =
     points-away d i (suc j) k is p q hk (w .2) (omega (arith, w .0)) m v (le-of-suc-le-suc h) e
 
-pub points-apart : (d a k : ℕ) (is : List ℕ) → 1 ≤ d → d ≤ 2 → k ≤ 255 → Ascending a k is → Apart (points d is)
+pub points-apart : (d a k : ℕ) (is : List ℕ) → 1 ≤ d → d ≤ 2 → k ≤ mostData → Ascending a k is → Apart (points d is)
 unfolding points Ascending Apart
 points-apart d a k [] p q hk w = tt
 points-apart d a k (i ∷ is) p q hk w =
@@ -263,7 +264,7 @@ added-back r t e h = ap (λ (x : ℕ). r ⊕ x) h ∙ simp sums
 pub taken-off : (r e n : ℕ) → n ≡ r ⊕ e → e ≡ n ⊕ r
 taken-off r e n h = sym (add-cancel r e) ∙ ap (λ (x : ℕ). r ⊕ x) (sym h) ∙ add-comm r n
 
-module _ (a d k : ℕ) (is : List ℕ) (d-some : 1 ≤ d) (d-most : d ≤ 2) (k-most : k ≤ 255) (w : Ascending 0 k is)
+module _ (a d k : ℕ) (is : List ℕ) (d-some : 1 ≤ d) (d-most : d ≤ 2) (k-most : k ≤ mostData) (w : Ascending 0 k is)
     (ms : List ℕ) (h : length ms ≡ k) (t : ℕ → ℕ) where
   pub mended-bytes : Bytes ms → Bytes (mended a d is ms t)
   unfolding mended

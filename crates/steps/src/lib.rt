@@ -1,12 +1,16 @@
 // The steps of rows 1 and 2: loops over byte slices that multiply by 2, 4 or 16 and add, made of shifts.
+use field::Gf;
 use lanes::shorter;
 ghost use mathlib.Core.Path.{_≡_};
 ghost use mathlib.Core.Bool.{cond};
-ghost use Prim.Native.Nat.{ℕ, _*_, _<_};
+ghost use Prim.Native.Nat.{ℕ, _-_, _*_, _<_};
 ghost use lib.Bits.{bitAnd};
 ghost use lib.Dec.{eqb};
-ghost use Rattle.field.specs.Field.{_⊕_, _⊗_};
+ghost use Rattle.field.specs.Field.{_⊕_, _⊗_, polynomial};
 ghost use Rattle.lanes.specs.Lanes.{onto, both};
+
+// x^8, as which the bit of x^7 comes back when a byte is doubled: the polynomial without its highest term.
+const REDUCTION: u8 = (Gf::POLYNOMIAL - 256) as u8;
 
 // At each place twice the first and the second.
 pub fn double_add(a: &mut [u8], d: &[u8])
@@ -49,7 +53,7 @@ pub fn quadruple_add_two(a: &mut [u8], d: &[u8], e: &[u8])
 pub fn double(x: u8) -> u8
     ensures { λ v. ⌜ v ≡ 2 ⊗ x ⌝ }
 {
-    ((x % 128) * 2) ^ ((x / 128) * 29)
+    ((x % 128) * 2) ^ ((x / 128) * REDUCTION)
 }
 
 // Sixteen times x and four times y: the highest bits of both come back together times x^4 + x^3 + x^2 + 1.
@@ -65,7 +69,7 @@ fn sixteen_and_four(x: u8, y: u8) -> u8
 // x^2 + x + 1 times t: four times that and t are t times x^4 + x^3 + x^2 + 1.
 fn carried(t: u8) -> u8
     requires { ⌜ t < 16 ⌝ }
-    ensures { λ v. ⌜ (v < 64) × (v * 4 ⊕ t ≡ 29 ⊗ t) ⌝ }
+    ensures { λ v. ⌜ (v < 64) × (v * 4 ⊕ t ≡ (polynomial - 256) ⊗ t) ⌝ }
 {
     t ^ (t * 2) ^ (t * 4)
 }

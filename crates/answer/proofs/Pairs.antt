@@ -1,18 +1,18 @@
 -- Positions as pairs of bytes, one more at a time, and lists copied over the front of others.
 use Prim.Native.Nat.{ℕ, _+_, _*_, _/_, _%_, _≤_, _<_}
 use mathlib.Core.Path.{_≡_, refl, sym, ap, ap₂, _∙_}
-use mathlib.Core.List.{List, [], _∷_, _++_, append-nil}
+use mathlib.Core.List.{List, [], _∷_, _++_}
 use native.Mathlib.Omega.{arith}
-use native.Mathlib.Nat.{div-add-mod', zero-add}
-use lib.ListN.{length, getD, take, drop, set}
-use lib.Seq.{length-take-le, drop-length}
+use native.Mathlib.Nat.{div-add-mod'}
+use lib.ListN.{length, getD, take, set}
+use lib.Seq.{length-take-le}
 use Rattle.lanes.specs.Lanes.{onto}
 use Rattle.record.proofs.Survivors.{copied-front}
 use Rattle.lost.specs.Positions.{positions}
-use Rattle.text.specs.Text.{over}
+use Rattle.field.specs.Bytes.{over}
 use Rattle.answer.specs.Answer.{pairs}
-use Rattle.text.proofs.Over.{over-one, over-on, over-long}
-use Rattle.text.proofs.Pieces.{take-more, take-whole, word-turn}
+use Rattle.field.proofs.Over.{over-one, over-front, over-all, over-on, over-turn, over-long}
+use Rattle.text.proofs.Pieces.{take-more, take-whole}
 
 pub pairs-length : (es : List ℕ) → length (pairs es) ≡ 2 * length es
 unfolding pairs
@@ -36,17 +36,9 @@ positions-pairs (e ∷ es) =
     let h : e % 256 + e / 256 * 256 ≡ e = omega (arith, div-add-mod' e 256) in
     ap₂ (λ (n : ℕ) (l : List ℕ). n ∷ l) h (positions-pairs es)
 
--- all of a list written over
-pub over-all : (out xs : List ℕ) → length xs ≡ length out → over out 0 xs ≡ xs
-unfolding over
-over-all out xs e =
-    let h : 0 + length xs ≡ length out = omega arith in
-    ap (λ (n : ℕ). xs ++ drop n out) h ∙ ap (λ (l : List ℕ). xs ++ l) (drop-length out) ∙ append-nil xs
-
 -- a list copied over the front of another
 pub copied-over : (out xs : List ℕ) → length xs ≤ length out → onto (λ (x y : ℕ). y) out xs ≡ over out 0 xs
-unfolding over
-copied-over out xs h = copied-front out xs h ∙ ap (λ (n : ℕ). xs ++ drop n out) (sym (zero-add (length xs)))
+copied-over out xs h = copied-front out xs h ∙ sym (over-front out xs)
 
 -- one turn: the two bytes of a position
 module _ (out₀ w out out′ out″ : List ℕ) (next next′ next″ q : ℕ) (below : q < length w) where
@@ -74,4 +66,4 @@ pairs-done out₀ w out q h room e =
 pub list-turn : (out₀ w out : List ℕ) (q : ℕ) → q < length w → length w ≤ length out₀ → length out ≡ length out₀ → out ≡ over out₀ 0 (take q w)
     → (length (set out q (getD w q 0)) ≡ length out₀) × (set out q (getD w q 0) ≡ over out₀ 0 (take (q + 1) w))
 list-turn out₀ w out q h room long e =
-    word-turn out₀ w out (set out q (getD w q 0)) 0 q q h (omega arith) e (over-one out q (getD w q 0) (omega arith)) (omega arith)
+    over-turn out₀ w out (set out q (getD w q 0)) 0 q q 0 h (omega arith) e (over-one out q (getD w q 0) (omega arith)) (omega arith)

@@ -13,10 +13,12 @@ use Rattle.stripe.specs.declared.Shape.{Shape}
 use Rattle.stripe.specs.Shape.{shapeRefusal, columns, stripeLength}
 use Rattle.record.specs.declared.read.Got.{Got}
 use Rattle.record.specs.Reading.{readRefusal, gotOf, stripeRead, lostRead, shapeOf, countOf, lostOf, columnsFilled, positionsFilled}
-use Rattle.record.proofs.Accepted.{positions-length}
+use Rattle.record.proofs.Listing.{positions-length}
 use Rattle.mending.specs.Mend.{Mended}
 use Rattle.answer.specs.declared.mended.Answer.{Answer}
-use Rattle.text.specs.Text.{over, stripeText, refusalText, printable, stripePrinted, textRoom}
+use Rattle.field.specs.Bytes.{over}
+use Rattle.field.proofs.Over.{over-front}
+use Rattle.text.specs.Text.{stripeText, refusalText, printable, stripePrinted, textRoom}
 use Rattle.answer.specs.Answer.{pairs, blankStripe, described, RecordMended, answerOf, Worked, Answered, Printed}
 use Rattle.answer.proofs.Reading.{blank-long, whole, got-number, got-whole, read-says, count-most, read-shaped}
 use Rattle.text.proofs.Printed.{printed}
@@ -74,7 +76,8 @@ module _ (bs held₀ list₀ : List ℕ) (got : Got) (held list : List ℕ) (pre
     front-is = ap₂ (λ (n : ℕ) (l : List ℕ). take n l) (ap stripeLength shape-is) held-is
 
     pub listed-is : take (got .lost) list ≡ lostOf bs
-    listed-is = ap₂ (λ (n : ℕ) (l : List ℕ). take n l) lost-is list-is ∙ take-at (lostOf bs) _ (countOf bs) (lost-long bs)
+    listed-is = ap₂ (λ (n : ℕ) (l : List ℕ). take n l) lost-is list-is ∙ ap (take (countOf bs)) (over-front list₀ (lostOf bs))
+        ∙ take-at (lostOf bs) _ (countOf bs) (lost-long bs)
 
     -- the buffers mended
     module _ (v : ℕ) (ys : List ℕ) (m : Mended (got .shape) (pairs (take (got .lost) list)) (take ((got .shape .k + got .shape .r) * got .shape .l) held) v ys) where

@@ -10,7 +10,8 @@ use Rattle.stripe.specs.Shape.{stripeLength}
 use Rattle.record.specs.Reading.{readRefusal, shapeOf, countOf, lostOf, columnsFilled}
 use Rattle.mending.specs.Mend.{Mended}
 use Rattle.answer.specs.declared.mended.Answer.{Answer}
-use Rattle.text.specs.Text.{over, stripeText, refusalText, textRoom}
+use Rattle.field.specs.Bytes.{over}
+use Rattle.text.specs.Text.{stripeText, refusalText, textRoom}
 
 -- positions as pairs of bytes, low byte first
 unfoldable pub pairs : List ℕ → List ℕ

@@ -7,7 +7,7 @@ ghost use mathlib.Core.Path.{_≡_};
 ghost use Prim.Native.Nat.{_+_, _*_, _≤_};
 ghost use lib.ListN.{length};
 ghost use Rattle.mending.specs.Mend.{Mended};
-ghost use Rattle.text.specs.Text.{over};
+ghost use Rattle.field.specs.Bytes.{over};
 ghost use Rattle.answer.specs.Answer.{pairs, blankStripe, Answered, Worked};
 
 // What mending a record reports: 0, the shape and the number of lost columns; or a refusal, and zeros.

@@ -2,16 +2,15 @@
 -- theorems cite document 01's definitions alone. A list of bytes that a call is lent is a list of numbers below 256 (`Bytes`).
 use Prim.Native.Nat.{ℕ, _+_, _*_, _/_, _<_, _≤_}
 use mathlib.Core.Path.{_≡_, refl, sym, ap, ap₂, _∙_, subst}
-use mathlib.Core.Bool.{Bool, true, cond}
+use mathlib.Core.Bool.{Bool}
 use mathlib.Core.Logic.{_⊎_, inl, inr, _↔_}
 use mathlib.Core.List.{List, [], _++_}
-use native.Mathlib.Nat.{zero-add}
 use native.Mathlib.Omega.{arith}
 use borrow.Author.Tests.{eqb-true, eq-eqb, leb-true, le-leb}
 use lib.Dec.{eqb, leb}
-use lib.ListN.{length, getD, drop}
+use lib.ListN.{length, getD}
 use Rattle.field.specs.Field.{_⊕_}
-use Rattle.field.specs.Bytes.{Bytes}
+use Rattle.field.specs.Bytes.{Bytes, over}
 use Rattle.field.specs.Row.{row}
 use Rattle.field.proofs.Xor.{add-self}
 use Rattle.field.proofs.Powers.{sum-zero}
@@ -51,11 +50,10 @@ use Rattle.fold.proofs.Cut.{cut-length}
 use Rattle.fold.proofs.Shows.{named-few, folded-parity, one-shows}
 use Rattle.record.proofs.Refusals.{first-zero, skip, end, stripe-lawful}
 use Rattle.record.proofs.Accepted.{unless-zero}
-use Rattle.writing.proofs.Putting.{writable}
 use Rattle.writing.proofs.Inverse.{accepts, accepts-no-other, count-back, filled-back, bytes-back}
 use Rattle.demands.proofs.Contracts.{AllMet, all-met}
 use Rattle.demands.proofs.Answers.{done, left, got-number, written-number, Outcome, passed}
-use Rattle.demands.proofs.Mended.{over-front, record-judged, laid-shape, laid-lost, laid-described}
+use Rattle.demands.proofs.Mended.{record-judged, laid-shape, laid-lost, laid-described}
 use Rattle.demands.proofs.Runs.{in-run}
 use Rattle.demands.proofs.Named.{names-parity, parity-named}
 use Rattle.demands.proofs.Tables.{encode-table, mend-table, plan-table, fold-table, spans-table, read-table, write-table}
@@ -177,7 +175,7 @@ demand-1-write s xs es out v out′ p =
 pub demand-1-mend-record : (bs xs es : List ℕ) (v : Answer) (xs′ es′ : List ℕ) → MendsRecord bs xs es v xs′ es′
     → (ys : List ℕ)
     × (RecordJudged bs (length xs) (length es) (v .number) ys
-    × ((v .number ≡ 0 → (v ≡ mendedAnswer bs) × ((xs′ ≡ ys ++ drop (length ys) xs) × (es′ ≡ lostOf bs ++ drop (length (lostOf bs)) es)))
+    × ((v .number ≡ 0 → (v ≡ mendedAnswer bs) × ((xs′ ≡ over xs 0 ys) × (es′ ≡ over es 0 (lostOf bs))))
     × ((v .number ≡ 0 → ⊥) → (v ≡ refusedAnswer (v .number)) × ((xs′ ≡ xs) × (es′ ≡ es)))))
 demand-1-mend-record bs xs es v xs′ es′ p = (
   p .bytes,
@@ -187,8 +185,8 @@ demand-1-mend-record bs xs es v xs′ es′ p = (
       λ z. (
         p .reported ∙ done (v .number) (mendedAnswer bs) (refusedAnswer (v .number)) z,
         (
-          p .stripe ∙ done (v .number) _ xs z ∙ over-front xs (p .bytes),
-          p .list ∙ done (v .number) _ es z ∙ over-front es (lostOf bs),
+          p .stripe ∙ done (v .number) _ xs z,
+          p .list ∙ done (v .number) _ es z,
         ),
       ),
       λ h. (
@@ -211,7 +209,7 @@ pub demand-1-answer : (bs out : List ℕ) (v : ℕ) (out′ : List ℕ) → Prin
     × (textRoom ≤ length out
     → (n : ℕ)
     × ((ys : List ℕ)
-    × (RecordJudged bs 65536 258 n ys × ((v ≡ length (textWith bs n ys)) × (out′ ≡ textWith bs n ys ++ drop (length (textWith bs n ys)) out)))))
+    × (RecordJudged bs 65536 258 n ys × ((v ≡ length (textWith bs n ys)) × (out′ ≡ over out 0 (textWith bs n ys))))))
 demand-1-answer bs out v out′ p = (
   p .cramped,
   λ h.
@@ -224,7 +222,7 @@ demand-1-answer bs out v out′ p = (
             record-judged bs 65536 258 (t .number) (t .bytes) (t .outcome),
             (
               f .long ∙ ap length (t .lines),
-              f .bytes ∙ over-front out (f .text) ∙ ap (λ (text : List ℕ). text ++ drop (length text) out) (t .lines),
+              f .bytes ∙ ap (over out 0) (t .lines),
             ),
           ),
         ),
@@ -354,7 +352,7 @@ demand-2-record-accepted bs xs es v xs′ es′ b p = (
 pub demand-2-record-read : (bs xs ls : List ℕ) (v : Got) (xs′ ls′ : List ℕ) → Reads bs xs ls v xs′ ls′ → v .number ≡ 0 → length xs ≡ 65536 → (w : LaidOut bs)
     → (v .shape ≡ w .shape)
     × ((v .lost ≡ length (w .lost))
-    × ((ls′ ≡ w .lost ++ drop (length (w .lost)) ls)
+    × ((ls′ ≡ over ls 0 (w .lost))
     × (Agree (w .shape) (w .lost) (w .stripe) xs′
     × (xs′ ≡ restored (w .shape .l) (w .lost) 0 (columns (w .shape)) (survivors (w .shape .l) (w .lost) 0 (columns (w .shape)) (w .stripe)) xs))))
 demand-2-record-read bs xs ls v xs′ ls′ p z long w = (
@@ -362,7 +360,7 @@ demand-2-record-read bs xs ls v xs′ ls′ p z long w = (
   (
     ap (λ (g : Got). g .lost) got ∙ count,
     (
-      p .1 .1 ∙ done refusal (positionsFilled bs ls) ls none ∙ ap₂ (λ (es : List ℕ) (m : ℕ). es ++ drop m ls) (laid-lost bs w) count,
+      p .1 .1 ∙ done refusal (positionsFilled bs ls) ls none ∙ ap (over ls 0) (laid-lost bs w),
       (
         subst (Agree (w .shape) (w .lost) (w .stripe)) (sym bytes)
             (bytes-back (w .shape) (w .lost) (w .stripe) xs lawful (w .ascending) (w .exact) (omega (arith, w .short))),
@@ -392,16 +390,11 @@ demand-2-record-read bs xs ls v xs′ ls′ p z long w = (
 
 -- Writing puts the record of the stripe at the front of the output, reports its length, and leaves what follows.
 pub demand-2-record-written : (s : Shape) (xs es out : List ℕ) (v : Written) (out′ : List ℕ) → Writes s xs es out v out′ → v .number ≡ 0
-    → (v .length ≡ length (recordOf s es xs)) × (out′ ≡ recordOf s es xs ++ drop (length (recordOf s es xs)) out)
+    → (v .length ≡ length (recordOf s es xs)) × (out′ ≡ over out 0 (recordOf s es xs))
 demand-2-record-written s xs es out v out′ p z =
     let refusal = writeRefusal s xs es (length out) in
     let none : refusal ≡ 0 = sym (written-number s xs es out v out′ p) ∙ z in
-    let fits : leb (0 + length (recordOf s es xs)) (length out) ≡ true = le-leb (0 + length (recordOf s es xs)) (length out) (omega (arith, writable s xs es (length out) none .fits)) in (
-      ap (λ (g : Written). g .length) (p .0 ∙ done refusal _ _ none),
-      p .1 ∙ done refusal _ out none
-          ∙ ap (λ (b : Bool). cond b (recordOf s es xs ++ drop (0 + length (recordOf s es xs)) out) out) fits
-          ∙ ap (λ (m : ℕ). recordOf s es xs ++ drop m out) (zero-add (length (recordOf s es xs))),
-    )
+    (ap (λ (g : Written). g .length) (p .0 ∙ done refusal _ _ none), p .1 ∙ done refusal _ out none)
 
 -- ---- Demand 3
 -- "A fold that is handed only the bytes its plan names gives the very parity of all the data in order; the plan's volume is the published cost; a
@@ -409,7 +402,7 @@ demand-2-record-written s xs es out v out′ p z =
 
 -- The list that the caller is given is the plan, and its records after the last span stay.
 pub demand-3-plan : (k r t l n f : ℕ) (xs : List Span) (v : ℕ) (xs′ : List Span) → PlanSpans k r t l n f xs v xs′ → v ≡ 0
-    → xs′ ≡ plan (shapeOf k r t l) n f ++ drop (length (plan (shapeOf k r t l) n f)) xs
+    → xs′ ≡ over xs 0 (plan (shapeOf k r t l) n f)
 unfolding spansFilled
 demand-3-plan k r t l n f xs v xs′ p z = p .1 ∙ done (spansRefusal (shapeOf k r t l) n f (length xs)) _ xs (sym (p .0) ∙ z)
 

@@ -4,8 +4,7 @@ use Prim.Native.Nat.{ℕ, suc, _+_, _*_, _/_, _%_, _<_, _≤_}
 use mathlib.Core.Path.{_≡_, sym, ap, _∙_, subst}
 use mathlib.Core.Bool.{true}
 use mathlib.Core.Logic.{_⊎_, inl, inr}
-use mathlib.Core.List.{List, [], _∷_, _++_}
-use native.Mathlib.Nat.{zero-add}
+use mathlib.Core.List.{List, [], _∷_}
 use native.Mathlib.Omega.{arith}
 use borrow.Author.Tests.{eq-eqb}
 use lib.ListN.{length, getD, take, drop}
@@ -20,21 +19,16 @@ use Rattle.mending.specs.Mend.{mendRefusal, Restored, Mended}
 use Rattle.writing.specs.Writing.{LaidOut}
 use Rattle.number.specs.Number.{nextOf}
 use Rattle.record.specs.Reading.{shapeOf, firstOf, countNumber, countOf, lostOf, columnsStart, columnsFilled, readRefusal, stripeRefusal}
-use Rattle.record.proofs.Accepted.{Accepted, positions-length}
+use Rattle.record.proofs.Accepted.{Accepted}
+use Rattle.record.proofs.Listing.{positions-length}
 use Rattle.record.proofs.Exactly.{columns-enough}
 use Rattle.record.proofs.Refusals.{stripe-lawful}
 use Rattle.writing.proofs.Inverse.{restored-length, shape-back, lost-back, bytes-back}
-use Rattle.text.specs.Text.{over}
 use Rattle.answer.specs.Answer.{pairs, blankStripe, described, RecordMended}
 use Rattle.answer.proofs.Pairs.{pairs-length, positions-pairs}
 use Rattle.answer.proofs.Reading.{blank-long, read-says, read-shaped}
 use Rattle.demands.specs.Calls.{readTable, RecordJudged}
 use Rattle.demands.proofs.Tables.{read-table}
-
--- what stands at the front
-pub over-front : (out xs : List ℕ) → over out 0 xs ≡ xs ++ drop (length xs) out
-unfolding over
-over-front out xs = ap (λ (n : ℕ). xs ++ drop n out) (zero-add (length xs))
 
 ascending-so : (a n : ℕ) (es : List ℕ) → Ascending a n es → ascending a n es ≡ true
 unfolding Ascending

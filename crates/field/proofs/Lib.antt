@@ -5,6 +5,7 @@ pub mod Tables
 pub mod Mul
 pub mod Powers
 pub mod Bytes
+pub mod Over
 pub mod Rows
 pub mod Solve
 pub mod Poly

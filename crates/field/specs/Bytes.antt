@@ -1,7 +1,7 @@
 -- Lists of bytes.
-use mathlib.Core.List.{List, [], _∷_}
-use Prim.Native.Nat.{ℕ, zero, suc, _<_}
-use lib.ListN.{getD}
+use mathlib.Core.List.{List, [], _∷_, _++_}
+use Prim.Native.Nat.{ℕ, zero, suc, _+_, _<_}
+use lib.ListN.{length, getD, take, drop}
 use Rattle.field.specs.Field.{_⊕_}
 
 infixl 65 _⊞_
@@ -19,3 +19,7 @@ unfoldable pub _⊞_ : List ℕ → List ℕ → List ℕ
 [] ⊞ ys = []
 (x ∷ xs) ⊞ [] = []
 (x ∷ xs) ⊞ (y ∷ ys) = (x ⊕ y) ∷ (xs ⊞ ys)
+
+-- xs over what stands from `at` on; the rest stays
+unfoldable pub over : {A : Type 0} → List A → ℕ → List A → List A
+over out at xs = take at out ++ (xs ++ drop (at + length xs) out)

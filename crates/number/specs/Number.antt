@@ -1,9 +1,10 @@
 -- Numbers of a record (document 01, 'Stripe records'): their bytes, and what stands at a place of a list of bytes.
 use Prim.Native.Nat.{ℕ, zero, suc, _+_, _-_, _*_, _/_, _%_}
 use mathlib.Core.Bool.{cond}
-use mathlib.Core.List.{List, [], _∷_, _++_}
+use mathlib.Core.List.{List, [], _∷_}
 use lib.Dec.{leb, ltb, eqb}
-use lib.ListN.{length, getD, take, drop}
+use lib.ListN.{length, getD}
+use Rattle.field.specs.Bytes.{over}
 use Rattle.number.specs.declared.Number.{Number}
 use Rattle.number.specs.declared.Number.the-variants.{Value, Cut, Malformed}
 
@@ -55,9 +56,9 @@ nextOf (Value v next) = next
 nextOf Cut = 0
 nextOf Malformed = 0
 
--- a list with xs in the place of what stands from `at` on, where it has room for them
+-- xs over what stands from `at` on, where there is room for them
 abbrev pub placed : List ℕ → ℕ → List ℕ → List ℕ
-placed out at xs = cond (leb (at + length xs) (length out)) (take at out ++ xs ++ drop (at + length xs) out) out
+placed out at xs = cond (leb (at + length xs) (length out)) (over out at xs) out
 
 -- how many of them are placed: all, or none where there is no room
 abbrev pub countPlaced : List ℕ → ℕ → List ℕ → ℕ

@@ -81,11 +81,6 @@ positions-within s n (suc m) least at e h =
     let p = position-zero (numberAt s at) least n (a .0) in
     positions-within s n m (valueOf (numberAt s at) + 1) (nextOf (numberAt s at)) (a .1) (next-within s at (p .0))
 
-pub positions-length : (s : List ℕ) (m at : ℕ) → length (positionsAt s m at) ≡ m
-unfolding positionsAt
-positions-length s zero at = refl
-positions-length s (suc m) at = ap suc (positions-length s m (nextOf (numberAt s at)))
-
 -- ---- ascending positions
 
 pub ascending-below : (a n : ℕ) (es : List ℕ) → Ascending a n es → (i : ℕ) → (getD es i 0 < n) ⊎ (getD es i 0 ≡ 0)

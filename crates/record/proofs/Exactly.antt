@@ -16,7 +16,8 @@ use Rattle.record.specs.Reading.{firstNumber, secondNumber, thirdNumber,
 use Rattle.number.proofs.Written.{only-written}
 use Rattle.record.proofs.Survivors.{restored-lost, restored-kept, survivors-lost, survivors-kept}
 use Rattle.record.proofs.Refusals.{first-zero}
-use Rattle.record.proofs.Accepted.{Accepted, accepted, number-is, position-zero, positions-zero, positions-length, kept-lost, kept-one}
+use Rattle.record.proofs.Accepted.{Accepted, accepted, number-is, position-zero, positions-zero, kept-lost, kept-one}
+use Rattle.record.proofs.Listing.{positions-length}
 
 -- ---- the head
 

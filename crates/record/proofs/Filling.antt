@@ -1,13 +1,15 @@
 -- A lawful record has what its fillers need: room, columns, and positions of 16 bits.
 use Prim.Native.Nat.{ℕ, _-_, _*_, _≤_, _<_}
 use mathlib.Core.Path.{_≡_, sym, ap, ap₂, subst, _∙_}
-use mathlib.Core.List.{List, _++_}
+use mathlib.Core.List.{List}
 use mathlib.Core.Logic.{⊎-elim}
 use native.Mathlib.Omega.{arith}
 use lib.Dec.{leb, eqb}
 use lib.ListN.{length, getD, take, drop, length-drop}
 use lib.Seq.{take-at, take-all}
 use borrow.Author.Tests.{le-leb, lt-leb, eq-eqb, ne-eqb}
+use Rattle.field.specs.Bytes.{over}
+use Rattle.field.proofs.Over.{over-front}
 use Rattle.stripe.specs.declared.Shape.{Shape}
 use Rattle.stripe.specs.Shape.{columns, stripeLength}
 use Rattle.record.specs.declared.read.Got.{Got}
@@ -16,7 +18,8 @@ use Rattle.record.specs.Layout.{kept, restored}
 use Rattle.number.specs.Number.{nextOf}
 use Rattle.record.specs.Reading.{unless, countNumber, shapeOf, countOf, lostOf, columnsStart, positionsAt, contentRefusal, verdictOf, readRefusal, gotOf, columnsFilled, positionsFilled, stripeRead, lostRead}
 use Rattle.record.proofs.Refusals.{stop, skip, only, passed, failed}
-use Rattle.record.proofs.Accepted.{Accepted, accepted, lawful-says, ascending-below, kept-lost, positions-length}
+use Rattle.record.proofs.Accepted.{Accepted, accepted, lawful-says, ascending-below, kept-lost}
+use Rattle.record.proofs.Listing.{positions-length}
 
 module _ (s : List ℕ) (sh : Shape) (m f e : ℕ) (law : Lawful sh m f e ≡ verdictOf s) where
   says : (contentRefusal s ≡ 0) × (sh ≡ shapeOf s) × (m ≡ countOf s) × (f ≡ nextOf (countNumber s)) × (e ≡ columnsStart s)
@@ -46,8 +49,9 @@ module _ (s : List ℕ) (sh : Shape) (m f e : ℕ) (law : Lawful sh m f e ≡ ve
   pub fill-small : (i : ℕ) → getD (positionsAt s m f) i 0 < 65536
   fill-small i = subst (λ (es : List ℕ). getD es i 0 < 65536) (sym lost-is) (⊎-elim (λ l. omega (arith, fill-columns-few, wide)) (λ z. omega arith) (ascending-below 0 (columns (shapeOf s)) (lostOf s) (good .ascending) i))
 
-  pub fill-front : (es lost : List ℕ) → lost ≡ positionsAt s m f ++ drop m es → take m lost ≡ lostOf s
-  fill-front es lost q = ap (take m) q ∙ take-at (positionsAt s m f) (drop m es) m (positions-length s m f) ∙ lost-is
+  pub fill-front : (es lost : List ℕ) → lost ≡ over es 0 (positionsAt s m f) → take m lost ≡ lostOf s
+  fill-front es lost q =
+      ap (take m) (q ∙ over-front es (positionsAt s m f)) ∙ take-at (positionsAt s m f) _ m (positions-length s m f) ∙ lost-is
 
   pub fill-rest : take (length s - e) (drop e s) ≡ drop (columnsStart s) s
   fill-rest = take-all (length s - e) (drop e s) (omega (arith, length-drop e s)) ∙ ap (λ (n : ℕ). drop n s) (says .4)
@@ -71,8 +75,8 @@ module _ (s : List ℕ) (sh : Shape) (m f e : ℕ) (law : Lawful sh m f e ≡ ve
       w ∙ ap₂ (λ (x : List ℕ) (v : Shape). restored (v .l) x 0 (columns v) (take (length s - e) (drop e s)) xs) q (says .1)
       ∙ ap (λ (ys : List ℕ). restored (shapeOf s .l) (lostOf s) 0 (columns (shapeOf s)) ys xs) fill-rest
 
-  pub fill-positions-is : (es es′ : List ℕ) → es′ ≡ positionsAt s m f ++ drop m es → es′ ≡ positionsFilled s es
-  fill-positions-is es es′ w = w ∙ ap₂ (λ (x : List ℕ) (n : ℕ). x ++ drop n es) lost-is (says .2)
+  pub fill-positions-is : (es es′ : List ℕ) → es′ ≡ over es 0 (positionsAt s m f) → es′ ≡ positionsFilled s es
+  fill-positions-is es es′ w = w ∙ ap (over es 0) lost-is
 
   pub fill-got : _≡_ {A = Got} (record { number = 0; shape = sh; lost = m }) (record { number = 0; shape = shapeOf s; lost = countOf s })
   fill-got = ap₂ read (says .1) (says .2)

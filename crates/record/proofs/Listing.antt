@@ -1,14 +1,14 @@
 -- The lost positions put at the front of a list, one at a time.
-use Prim.Native.Nat.{ℕ, suc, _+_, _-_, _≤_, _<_}
+use Prim.Native.Nat.{ℕ, zero, suc, _+_, _-_, _≤_, _<_}
 use mathlib.Core.Path.{_≡_, refl, sym, ap, _∙_}
 use mathlib.Core.Bool.{Bool, true, false, cond}
-use mathlib.Core.List.{List, [], _∷_, _++_}
-use native.Mathlib.Numerals.{add-one}
+use mathlib.Core.List.{List, [], _∷_}
 use native.Mathlib.Omega.{arith}
 use lib.Dec.{leb}
-use lib.ListN.{length, getD, take, drop, set, take-append-drop}
-use lib.Seq.{take-suc-set, drop-set-lt, append-snoc}
+use lib.ListN.{length, getD, set}
 use borrow.Author.Tests.{leb-true}
+use Rattle.field.specs.Bytes.{over}
+use Rattle.field.proofs.Over.{over-none, over-step}
 use Rattle.number.specs.declared.Number.{Number}
 use Rattle.number.specs.declared.Number.the-variants.{Value, Cut, Malformed}
 use Rattle.number.specs.Number.{numberAt, limited, groupsAt, valueOf, nextOf}
@@ -26,6 +26,11 @@ limited-most Malformed = omega arith
 
 pub value-most : (s : List ℕ) (at : ℕ) → valueOf (numberAt s at) ≤ 4294967295
 value-most s at = limited-most (groupsAt 5 s at)
+
+pub positions-length : (s : List ℕ) (m at : ℕ) → length (positionsAt s m at) ≡ m
+unfolding positionsAt
+positions-length s zero at = refl
+positions-length s (suc m) at = ap suc (positions-length s m (nextOf (numberAt s at)))
 
 -- the positions from the i-th on, and the next of them
 pub positions-next : (s : List ℕ) (m i at : ℕ) → i < m → positionsAt s (m - i) at ≡ valueOf (numberAt s at) ∷ positionsAt s (m - (i + 1)) (nextOf (numberAt s at))
@@ -47,16 +52,11 @@ positions-small s m i at h small =
     (rw e at (small 0), λ j. rw e at (small (suc j)))
 
 pub list-turn : (s lost : List ℕ) (m i at v : ℕ) → i < m → m ≤ length lost → v ≡ valueOf (numberAt s at)
-    → take (i + 1) (set lost i v) ++ (positionsAt s (m - (i + 1)) (nextOf (numberAt s at)) ++ drop m (set lost i v)) ≡ take i lost ++ (positionsAt s (m - i) at ++ drop m lost)
+    → over (set lost i v) (i + 1) (positionsAt s (m - (i + 1)) (nextOf (numberAt s at))) ≡ over lost i (positionsAt s (m - i) at)
 list-turn s lost m i at v h l e =
-    ap (λ (n : ℕ). take n (set lost i v) ++ (positionsAt s (m - (i + 1)) (nextOf (numberAt s at)) ++ drop m (set lost i v))) (add-one i)
-    ∙ ap (λ (xs : List ℕ). xs ++ (positionsAt s (m - (i + 1)) (nextOf (numberAt s at)) ++ drop m (set lost i v))) (take-suc-set lost i v (omega arith))
-    ∙ append-snoc (take i lost) v (positionsAt s (m - (i + 1)) (nextOf (numberAt s at)) ++ drop m (set lost i v))
-    ∙ ap (λ (xs : List ℕ). take i lost ++ (v ∷ (positionsAt s (m - (i + 1)) (nextOf (numberAt s at)) ++ xs))) (drop-set-lt m lost i v h)
-    ∙ ap (λ (x : ℕ). take i lost ++ (x ∷ (positionsAt s (m - (i + 1)) (nextOf (numberAt s at)) ++ drop m lost))) e
-    ∙ ap (λ (xs : List ℕ). take i lost ++ (xs ++ drop m lost)) (sym (positions-next s m i at h))
+    over-step lost i v (positionsAt s (m - (i + 1)) (nextOf (numberAt s at))) (omega (arith, positions-length s (m - (i + 1)) (nextOf (numberAt s at))))
+    ∙ ap (λ (x : ℕ). over lost i (x ∷ positionsAt s (m - (i + 1)) (nextOf (numberAt s at)))) e
+    ∙ ap (over lost i) (sym (positions-next s m i at h))
 
-pub list-done : (s lost : List ℕ) (m i at : ℕ) → m ≤ i → i ≤ m → take i lost ++ (positionsAt s (m - i) at ++ drop m lost) ≡ lost
-list-done s lost m i at h k =
-    let e : i ≡ m = omega arith in
-    ap (λ (xs : List ℕ). take i lost ++ (xs ++ drop m lost)) (positions-none s m i at h) ∙ ap (λ (n : ℕ). take n lost ++ drop m lost) e ∙ take-append-drop m lost
+pub list-done : (s lost : List ℕ) (m i at : ℕ) → m ≤ i → over lost i (positionsAt s (m - i) at) ≡ lost
+list-done s lost m i at h = ap (over lost i) (positions-none s m i at h) ∙ sym (over-none lost i)

@@ -2,9 +2,10 @@
 -- length, then the lost count and positions, then the columns. Of what cannot be read the value is 0.
 use Prim.Native.Nat.{ℕ, zero, suc, _+_, _-_, _*_}
 use mathlib.Core.Bool.{Bool, cond, _&&_}
-use mathlib.Core.List.{List, [], _∷_, _++_}
+use mathlib.Core.List.{List, [], _∷_}
 use lib.Dec.{leb, ltb, eqb}
 use lib.ListN.{length, drop}
+use Rattle.field.specs.Bytes.{over}
 use Rattle.stripe.specs.declared.Shape.{Shape}
 use Rattle.stripe.specs.Shape.{shapeRefusal, columns, stripeLength}
 use Rattle.number.specs.declared.Number.{Number}
@@ -123,7 +124,7 @@ abbrev pub columnsFilled : List ℕ → List ℕ → List ℕ
 columnsFilled s xs = restored (shapeOf s .l) (lostOf s) 0 (columns (shapeOf s)) (drop (columnsStart s) s) xs
 
 abbrev pub positionsFilled : List ℕ → List ℕ → List ℕ
-positionsFilled s es = lostOf s ++ drop (countOf s) es
+positionsFilled s es = over es 0 (lostOf s)
 
 -- the lent buffer and the lent list after reading
 abbrev pub stripeRead : List ℕ → List ℕ → ℕ → List ℕ

@@ -5,9 +5,9 @@ use number::number_refusal;
 use number::read_number;
 use stripe::Shape;
 ghost use mathlib.Core.Path.{_≡_};
-ghost use mathlib.Core.List.{_++_};
 ghost use Prim.Native.Nat.{ℕ, _+_, _-_, _<_, _≤_};
-ghost use lib.ListN.{length, getD, drop};
+ghost use lib.ListN.{length, getD};
+ghost use Rattle.field.specs.Bytes.{over};
 ghost use Rattle.number.specs.Number.{valueOf, nextOf};
 ghost use Rattle.record.specs.Reading.{stripeRefusal, headOf, positionRefusal, listedOf, columnsRefusal, restOf, verdictOf, positionsAt, columnsFilled, positionsFilled, gotOf, stripeRead, lostRead};
 
@@ -211,7 +211,7 @@ fn judge(s: &[u8]) -> Verdict
 fn fill_lost(s: &[u8], m: usize, first: usize, lost: &mut [u16])
     requires { ⌜ m ≤ length (now lost) ⌝ }
     requires { ⌜ ((i : ℕ) → getD (positionsAt (now s) m first) i 0 < 65536) ⌝ }
-    ensures { λ _. ⌜ now (lost .exit) ≡ positionsAt (now (s .entry)) m first ++ drop m (now (lost .entry)) ⌝ }
+    ensures { λ _. ⌜ now (lost .exit) ≡ over (now (lost .entry)) 0 (positionsAt (now (s .entry)) m first) ⌝ }
 {
     let mut i = 0;
     let mut at = first;

@@ -1,14 +1,16 @@
 -- The list after i stores: the first i spans of the plan, and after them what the list held.
-use Prim.Native.Nat.{ℕ, suc, _+_, _≤_, _<_}
+use Prim.Native.Nat.{ℕ, _+_, _≤_, _<_}
 use mathlib.Core.Path.{_≡_, refl, sym, ap, subst, _∙_}
-use mathlib.Core.List.{List, [], _∷_, _++_, append-assoc}
+use mathlib.Core.List.{List, [], _∷_}
 use mathlib.Core.Bool.{Bool, true, false, cond}
 use native.Mathlib.Omega.{arith}
 use native.Mathlib.Numerals.{add-one}
-use lib.ListN.{length, set, getD, take, drop, length-append, length-drop}
-use lib.Seq.{set-at, drop-cons, take-suc, take-length, length-take-le}
+use lib.ListN.{length, set, getD, take}
+use lib.Seq.{take-suc, take-length, length-take-le}
 use lib.Dec.{ltb, eqb}
 use borrow.Author.Tests.{ltb-false}
+use Rattle.field.specs.Bytes.{over}
+use Rattle.field.proofs.Over.{over-length, over-none, over-one, over-on}
 use Rattle.stripe.specs.declared.Shape.{Shape}
 use Rattle.plan.specs.declared.Span.{Span}
 use Rattle.plan.specs.Plan.{foldRefusal, columnsRead, plan, spanAt}
@@ -17,22 +19,24 @@ use Rattle.shelf.specs.Shelf.{spansRefusal, spansWritten, spansFilled}
 
 -- the list xs with the first i of the records ps stored
 abbrev pub front : List Span → ℕ → List Span → List Span
-front ps i xs = take i ps ++ drop i xs
+front ps i xs = over xs 0 (take i ps)
 
 pub length-front : (ps : List Span) (i : ℕ) (xs : List Span) → i ≤ length ps → i ≤ length xs → length (front ps i xs) ≡ length xs
-length-front ps i xs h g = simp (length-append, length-take-le i ps h, length-drop) (omega arith)
+length-front ps i xs h g = over-length xs 0 (take i ps) (omega (arith, length-take-le i ps h))
 
-front-suc : (ps : List Span) (i : ℕ) (xs : List Span) (d : Span) → i < length ps → i < length xs → set (front ps i xs) i (getD ps i d) ≡ front ps (suc i) xs
-front-suc ps i xs d h g =
-    ap (λ (l : List Span). set (take i ps ++ l) i (getD ps i d)) (drop-cons xs i d g)
-    ∙ set-at (take i ps) _ (drop (suc i) xs) (getD ps i d) i (length-take-le i ps (omega arith))
-    ∙ sym (append-assoc (take i ps) (getD ps i d ∷ []) (drop (suc i) xs))
-    ∙ ap (λ (l : List Span). l ++ drop (suc i) xs) (sym (take-suc ps i d h))
+front-one : (ps : List Span) (i : ℕ) (xs : List Span) (d : Span) → i < length ps → i < length xs
+    → set (front ps i xs) i (getD ps i d) ≡ front ps (i + 1) xs
+front-one ps i xs d h g =
+    over-one (front ps i xs) i (getD ps i d) (omega (arith, length-front ps i xs (omega arith) (omega arith)))
+    ∙ over-on xs (front ps i xs) _ 0 i (take i ps) (getD ps i d ∷ []) refl (omega (arith, length-take-le i ps (omega arith))) refl
+    (omega (arith, length-take-le i ps (omega arith)))
+    ∙ ap (over xs 0) (sym (rw add-one (take-suc ps i d h)))
 
 -- one store more
-pub front-more : (s : Shape) (n f i : ℕ) (xs : List Span) → i < length (plan s n f) → i < length xs → set (front (plan s n f) i xs) i (spanAt s n f i) ≡ front (plan s n f) (i + 1) xs
+pub front-more : (s : Shape) (n f i : ℕ) (xs : List Span) → i < length (plan s n f) → i < length xs
+    → set (front (plan s n f) i xs) i (spanAt s n f i) ≡ front (plan s n f) (i + 1) xs
 unfolding spanAt
-front-more s n f i xs h g = front-suc (plan s n f) i xs _ h g ∙ ap (λ (k : ℕ). front (plan s n f) k xs) (sym (add-one i))
+front-more s n f i xs h g = front-one (plan s n f) i xs _ h g
 
 room-by : (c many room : ℕ) (a b : Bool) → eqb c 0 ≡ a → ltb room many ≡ b → cond (eqb (cond a (cond b 5 0) c) 0) many 0 ≤ room
 room-by c many room true false d e = ltb-false room many e
@@ -43,9 +47,9 @@ some-of : (b : Bool) (many : ℕ) → cond b many 0 ≤ many
 some-of true many = omega arith
 some-of false many = omega arith
 
-done-by : (ps xs : List Span) (many : ℕ) → many ≡ length ps → (b : Bool) → front ps (cond b many 0) xs ≡ cond b (ps ++ drop (length ps) xs) xs
-done-by ps xs many e true = ap (λ (i : ℕ). front ps i xs) e ∙ ap (λ (l : List Span). l ++ drop (length ps) xs) (take-length ps)
-done-by ps xs many e false = refl
+done-by : (ps xs : List Span) (many : ℕ) → many ≡ length ps → (b : Bool) → front ps (cond b many 0) xs ≡ cond b (over xs 0 ps) xs
+done-by ps xs many e true = ap (λ (i : ℕ). front ps i xs) e ∙ ap (over xs 0) (take-length ps)
+done-by ps xs many e false = sym (over-none xs 0)
 
 -- no more spans are written than there is room for
 pub written-room : (s : Shape) (n f room : ℕ) → spansWritten s n f room ≤ room

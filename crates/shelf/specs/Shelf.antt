@@ -1,9 +1,10 @@
 -- The calls of the shelf daemon.
 use Prim.Native.Nat.{ℕ}
 use mathlib.Core.Bool.{cond}
-use mathlib.Core.List.{List, _++_}
+use mathlib.Core.List.{List}
 use lib.Dec.{eqb, ltb}
-use lib.ListN.{length, drop}
+use lib.ListN.{length}
+use Rattle.field.specs.Bytes.{over}
 use Rattle.stripe.specs.declared.Shape.{Shape}
 use Rattle.plan.specs.declared.Span.{Span}
 use Rattle.plan.specs.Plan.{foldRefusal, columnsRead, plan}
@@ -26,4 +27,4 @@ spansAnswer s n f room = record { no = spansRefusal s n f room; spans = spansWri
 
 -- what the list holds in the end: the plan, and after it what it held; or what it held where the call is refused
 unfoldable pub spansFilled : Shape → ℕ → ℕ → List Span → List Span
-spansFilled s n f xs = cond (eqb (spansRefusal s n f (length xs)) 0) (plan s n f ++ drop (length (plan s n f)) xs) xs
+spansFilled s n f xs = cond (eqb (spansRefusal s n f (length xs)) 0) (over xs 0 (plan s n f)) xs

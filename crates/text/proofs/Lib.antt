@@ -1,4 +1,3 @@
-pub mod Over
 pub mod Pieces
 pub mod Lines
 pub mod Printed

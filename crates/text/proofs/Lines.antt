@@ -12,8 +12,9 @@ use lib.Seq.{drop-drop}
 use Rattle.stripe.specs.declared.Shape.{Shape}
 use Rattle.stripe.specs.Shape.{columns}
 use Rattle.stripe.specs.Stripe.{among}
-use Rattle.text.specs.Text.{refusalText, over, decimalIn, keptWord, mendedWord, firstLine, columnLine, columnLines, stripeText}
-use Rattle.text.proofs.Over.{over-on, over-long}
+use Rattle.field.specs.Bytes.{over}
+use Rattle.text.specs.Text.{refusalText, decimalIn, keptWord, mendedWord, firstLine, columnLine, columnLines, stripeText}
+use Rattle.field.proofs.Over.{over-on, over-long}
 use Rattle.text.proofs.Pieces.{hex-length}
 
 -- ---- one line more

@@ -1,4 +1,4 @@
--- Digits, and bytes in hex, one more at a time.
+-- Digits, and bytes in hex, one more at a time; and pieces of text put one after the other.
 use Prim.Native.Nat.{ℕ, zero, suc, _+_, _-_, _*_, _/_, _%_, _≤_, _<_}
 use mathlib.Core.Path.{_≡_, refl, sym, ap, _∙_}
 use mathlib.Core.List.{List, [], _∷_, _++_}
@@ -8,8 +8,9 @@ use native.Mathlib.Nat.{mod-eq-of-lt}
 use borrow.Author.Tests.{lt-ltb, le-ltb}
 use lib.ListN.{length, getD, take, length-append}
 use lib.Seq.{take-suc, take-all, length-take-le}
-use Rattle.text.specs.Text.{over, decimalIn, hexDigit, hex}
-use Rattle.text.proofs.Over.{over-none, over-on, over-long}
+use Rattle.field.specs.Bytes.{over}
+use Rattle.text.specs.Text.{decimalIn, hexDigit, hex}
+use Rattle.field.proofs.Over.{over-none, over-on, over-long}
 
 pub take-more : (xs : List ℕ) (q : ℕ) → q < length xs → take (q + 1) xs ≡ take q xs ++ (getD xs q 0 ∷ [])
 take-more xs q h = rw add-one (take-suc xs q 0 h)
@@ -54,17 +55,6 @@ digits-more (suc m) n h l =
 -- ---- one turn of a loop that writes a list by its elements, each as the piece f of it; `whole xs` is what is written of xs
 
 module _ (out₀ w out out′ : List ℕ) (at next q : ℕ) (below : q < length w) where
-  -- a word, a byte at each turn
-  pub word-turn : next ≡ at + q → out ≡ over out₀ at (take q w) → out′ ≡ over out next (getD w q 0 ∷ [])
-      → at + length w ≤ length out₀ → (length out′ ≡ length out₀) × (out′ ≡ over out₀ at (take (q + 1) w))
-  word-turn e f g h =
-      let n : length (take q w) ≡ q = length-take-le q w (omega arith) in
-      let o : out′ ≡ over out₀ at (take q w ++ (getD w q 0 ∷ [])) =
-      over-on out₀ out out′ at next (take q w) (getD w q 0 ∷ []) f (omega arith) g (omega arith) in
-      let p : out′ ≡ over out₀ at (take (q + 1) w) = o ∙ ap (over out₀ at) (sym (take-more w q below)) in
-      let m : length (take (q + 1) w) ≡ q + 1 = length-take-le (q + 1) w (omega arith) in
-      (over-long out₀ out′ at (take (q + 1) w) p (omega arith), p)
-
   -- bytes in hex, two digits at each turn
   pub hex-turn : next ≡ at + 2 * q → out ≡ over out₀ at (hex (take q w)) → out′ ≡ over out next (hex (getD w q 0 ∷ []))
       → at + length (hex w) ≤ length out₀ → (length out′ ≡ length out₀) × (out′ ≡ over out₀ at (hex (take (q + 1) w)))
@@ -105,4 +95,27 @@ more-put out out′ out″ at v w m n h l room e f g k =
     let q : length (decimalIn m n) ≡ length (decimalIn (m - 1) (n / 10)) + 1 = more-length m n h l in (
       omega arith,
       over-on out out′ out″ at v (decimalIn (m - 1) (n / 10)) ((48 + n % 10) ∷ []) f e k (omega arith) ∙ ap (over out at) (sym (digits-more m n h l)),
+    )
+
+-- ---- a piece and what comes after it
+
+-- xs is written over out from `at` on, which gives out′, and `next` is the place after it
+abbrev pub Put : List ℕ → ℕ → List ℕ → List ℕ → ℕ → Type 0
+Put out at xs out′ next = (next ≡ at + length xs) × (out′ ≡ over out at xs)
+
+pub next-on : (at next next′ : ℕ) (xs ys : List ℕ) → next ≡ at + length xs → next′ ≡ next + length ys → next′ ≡ at + length (xs ++ ys)
+next-on at next next′ xs ys e f = omega (arith, length-append xs ys)
+
+module _ (out : List ℕ) (at : ℕ) (xs ys : List ℕ) (room : at + length (xs ++ ys) ≤ length out) where
+  pub front-room : at + length xs ≤ length out
+  front-room = omega (arith, length-append xs ys)
+
+  module _ (out′ : List ℕ) (next : ℕ) (p : Put out at xs out′ next) where
+    pub rest-room : next + length ys ≤ length out′
+    rest-room = omega (arith, p .0, length-append xs ys, over-long out out′ at xs (p .1) front-room)
+
+    pub put-then : (out″ : List ℕ) (next′ : ℕ) → Put out′ next ys out″ next′ → Put out at (xs ++ ys) out″ next′
+    put-then out″ next′ q = (
+      next-on at next next′ xs ys (p .0) (q .0),
+      over-on out out′ out″ at next xs ys (p .1) (p .0) (q .1) (omega (arith, length-append xs ys)),
     )

@@ -10,8 +10,10 @@ use lib.ListN.{length}
 use Rattle.stripe.specs.declared.Shape.{Shape}
 use Rattle.stripe.specs.Shape.{shapeRefusal, stripeLength}
 use Rattle.stripe.proofs.Allowed.{allowed}
-use Rattle.text.specs.Text.{over, stripeText, refusalText, printable, stripePrinted, refusalPrinted}
-use Rattle.text.proofs.Over.{Put, over-none}
+use Rattle.field.specs.Bytes.{over}
+use Rattle.text.specs.Text.{stripeText, refusalText, printable, stripePrinted, refusalPrinted}
+use Rattle.field.proofs.Over.{over-none}
+use Rattle.text.proofs.Pieces.{Put}
 use Rattle.text.proofs.Lines.{text-at-most, refusal-at-most}
 
 -- nothing written

@@ -64,10 +64,6 @@ stripeText s es xs = firstLine s ++ columnLines (s .l) es 0 (columns s) xs
 unfoldable pub refusalText : ℕ → List ℕ
 refusalText v = refusedWord ++ (decimal v ++ (10 ∷ []))
 
--- xs over what stands from `at` on
-unfoldable pub over : List ℕ → ℕ → List ℕ → List ℕ
-over out at xs = take at out ++ (xs ++ drop (at + length xs) out)
-
 -- room for the text of any stripe of at most 65,536 bytes
 abbrev pub textRoom : ℕ
 textRoom = 140000

@@ -11,7 +11,8 @@ mod put;
 
 ghost use mathlib.Core.Path.{_≡_};
 ghost use lib.ListN.{length};
-ghost use Rattle.text.specs.Text.{over, printable, stripePrinted, refusalPrinted};
+ghost use Rattle.field.specs.Bytes.{over};
+ghost use Rattle.text.specs.Text.{printable, stripePrinted, refusalPrinted};
 
 // The text of a mended stripe of at most 65,536 bytes whose columns `lost` were restored, with room for 140,000 bytes.
 pub fn write_text(s: Shape, lost: &[u16], stripe: &[u8], out: &mut [u8]) -> usize

@@ -9,7 +9,8 @@ ghost use mathlib.Core.Path.{_≡_};
 ghost use mathlib.Core.Bool.{cond};
 ghost use Prim.Native.Nat.{_+_, _*_, _≤_};
 ghost use lib.ListN.{length};
-ghost use Rattle.text.specs.Text.{over, keptWord, mendedWord, numberThen, firstLine, columnLine, columnLines};
+ghost use Rattle.field.specs.Bytes.{over};
+ghost use Rattle.text.specs.Text.{keptWord, mendedWord, numberThen, firstLine, columnLine, columnLines};
 
 // ` kept ` or ` mended `.
 fn put_state(out: &mut [u8], at: usize, mended: bool) -> usize

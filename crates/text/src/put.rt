@@ -3,7 +3,8 @@ ghost use mathlib.Core.Path.{_≡_};
 ghost use Prim.Native.Nat.{_+_, _≤_, _<_};
 ghost use mathlib.Core.List.{[], _∷_};
 ghost use lib.ListN.{length};
-ghost use Rattle.text.specs.Text.{over, decimalIn, decimal, hexDigit, hex};
+ghost use Rattle.field.specs.Bytes.{over};
+ghost use Rattle.text.specs.Text.{decimalIn, decimal, hexDigit, hex};
 
 // One byte.
 pub(crate) fn put_byte(out: &mut [u8], at: usize, b: u8) -> usize

@@ -21,7 +21,7 @@ use Rattle.record.specs.Layout.{positions, survivors, kept, recordHead, recordO
 use Rattle.record.specs.Reading.{unless, stripeRefusal}
 use Rattle.writing.specs.Writing.{ascends, writeRefusal, writtenOf, outWritten}
 use Rattle.number.proofs.Written.{drop-next, groups-most}
-use Rattle.number.proofs.Placed.{all-placed}
+use Rattle.field.proofs.Over.{sets-over}
 use Rattle.record.proofs.Survivors.{survivors-lost, survivors-kept}
 use Rattle.record.proofs.Refusals.{stop, skip, end, passed, failed, first-zero, described}
 use Rattle.record.proofs.Accepted.{kept-lost, unless-zero}
@@ -260,4 +260,4 @@ out-stays s xs es out z = rw (ne-eqb (writeRefusal s xs es (length out)) 0 z)
 
 pub out-put : (s : Shape) (xs es out : List ℕ) → writeRefusal s xs es (length out) ≡ 0 → sets out 0 (recordOf s es xs) ≡ outWritten s xs es out
 out-put s xs es out z =
-    all-placed out 0 (recordOf s es xs) (omega (arith, writable s xs es (length out) z .fits)) .1 ∙ rw (eq-eqb (writeRefusal s xs es (length out)) 0 z)
+    sets-over out 0 (recordOf s es xs) (omega (arith, writable s xs es (length out) z .fits)) ∙ rw (eq-eqb (writeRefusal s xs es (length out)) 0 z)

@@ -9,7 +9,7 @@ use Rattle.stripe.specs.declared.Shape.{Shape}
 use Rattle.stripe.specs.Shape.{shapeRefusal, columns, stripeLength}
 use Rattle.stripe.specs.Stripe.{Ascending}
 use Rattle.writing.specs.declared.Written.{Written}
-use Rattle.number.specs.Number.{placed}
+use Rattle.field.specs.Bytes.{over}
 use Rattle.record.specs.Layout.{recordOf}
 use Rattle.record.specs.Reading.{firstOf, unless, stripeRefusal}
 
@@ -36,7 +36,7 @@ writtenOf s xs es room =
 
 -- the lent buffer after writing: the record at its front
 abbrev pub outWritten : Shape → List ℕ → List ℕ → List ℕ → List ℕ
-outWritten s xs es out = cond (eqb (writeRefusal s xs es (length out)) 0) (placed out 0 (recordOf s es xs)) out
+outWritten s xs es out = cond (eqb (writeRefusal s xs es (length out)) 0) (over out 0 (recordOf s es xs)) out
 
 -- the bytes of some record: an allowed shape, at most 65,536 bytes of stripe, lost positions ascending and below n
 pub record LaidOut (s : List ℕ) : Type 0 where

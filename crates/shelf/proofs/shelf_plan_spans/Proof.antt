@@ -50,6 +50,7 @@ use denote.Triple.Walked.{says, Stays, stay-none, stay-slice, walkOf, goes-none,
 use denote.Exit.{yes}
 use borrow.Author.Tests.{lt-ltb, le-ltb}
 use Rattle.field.proofs.Cases.{below-or-from}
+use Rattle.field.proofs.Over.{over-none}
 use Rattle.stripe.specs.declared.Shape.{Shape}
 use Rattle.plan.specs.declared.Span.{Span}
 use Rattle.plan.specs.Plan.{plan, spanAt}
@@ -297,6 +298,7 @@ module _ {M : Type 1} (𝓤 : URA M) (H : Heap 𝓤) (A : Atoms 𝓤) (W : Given
           fsplit ! $ fsplit ! $ move ! (1 ∷ []) $ fsplit ! $ move ! (36 ∷ []) $ split ! $ move ! (2 ∷ 3 ∷ 0 ∷ []) $ opens-slice ! tt R ys b o $
           -- [the row; the open borrow; obs; auth; true; the fact of spans; true; the locals]
           move ! (4 ∷ []) $ drop ! $ move ! (4 ∷ []) $ drop ! $ move ! (4 ∷ []) $ drop ! $
+          rewrite ! 0 (λ (c : List Span). ‵ (row R fullShare c b o)) (over-none ys 0) refl $
           rewrite ! 0 (λ (c : ℕ). ‵ (row R fullShare (zs c) b o)) none refl $ rewrite ! 14 (λ (c : ℕ). ‵ (fat fullShare word l₁₀ 0 (vint w64 c))) none refl $
           by ! (runs-loop is-pl)
 

@@ -3,7 +3,7 @@ use borrow.Author.Needs.{needs}
 use denote.Ref.{now}
 use lib.ListN.{length}
 use Rattle.text.specs.Text.{refusedWord, numberThen, refusalText, refusalPrinted}
-use Rattle.text.proofs.Over.{rest-room, put-then}
+use Rattle.text.proofs.Pieces.{rest-room, put-then}
 use Rattle.text.proofs.Printed.{none-put, text-put, unprintable-refusal, printed-refusal, refusal-fits}
 use Rattle.text.proofs.write_refusal.Statement.{statement}
 use Rattle.text.proofs.write_refusal.Tie as tie

@@ -8,7 +8,7 @@ use lib.ListN.{length}
 use Rattle.stripe.proofs.Allowed.{allowed}
 use Rattle.stripe.specs.Shape.{columns}
 use Rattle.text.specs.Text.{firstLine, columnLines, stripeText, stripePrinted}
-use Rattle.text.proofs.Over.{front-room, rest-room, put-then}
+use Rattle.text.proofs.Pieces.{front-room, rest-room, put-then}
 use Rattle.text.proofs.Printed.{none-put, text-put, unprintable, printable-says, printed, text-fits}
 use Rattle.text.proofs.write_text.Statement.{statement}
 use Rattle.text.proofs.write_text.Tie as tie

@@ -4,8 +4,8 @@ use Prim.Native.Nat.{_-_, _≤_}
 use mathlib.Core.Path.{_≡_, refl, ap, _∙_}
 use denote.Ref.{now}
 use lib.ListN.{length, take}
-use Rattle.text.specs.Text.{over}
-use Rattle.text.proofs.Over.{over-none}
+use Rattle.field.specs.Bytes.{over}
+use Rattle.field.proofs.Over.{over-none}
 use Rattle.text.proofs.Pieces.{take-whole}
 use Rattle.answer.proofs.Pairs.{list-turn}
 use Rattle.answer.proofs.mended.put_list.Statement.{statement}

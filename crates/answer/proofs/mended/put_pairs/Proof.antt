@@ -5,9 +5,9 @@ use mathlib.Core.Path.{_≡_, refl}
 use native.Mathlib.Omega.{arith}
 use denote.Ref.{now}
 use lib.ListN.{length, getD, take, set, length-set}
-use Rattle.text.specs.Text.{over}
+use Rattle.field.specs.Bytes.{over}
 use Rattle.answer.specs.Answer.{pairs}
-use Rattle.text.proofs.Over.{over-none, over-one}
+use Rattle.field.proofs.Over.{over-none, over-one}
 use Rattle.answer.proofs.Pairs.{pairs-turn, pairs-done}
 use Rattle.answer.proofs.mended.put_pairs.Statement.{statement}
 use Rattle.answer.proofs.mended.put_pairs.Tie as tie

@@ -1,11 +1,11 @@
 -- `fill_lost` meets its contract: the positions left behind those stored are all of them.
 use Prim.Native.Nat.{ℕ, _+_, _-_, _≤_, _<_}
 use mathlib.Core.Path.{_≡_, refl, sym, ap, _∙_}
-use mathlib.Core.List.{List, _++_}
 use native.Mathlib.Omega.{arith}
-use lib.ListN.{length, getD, take, drop, set, length-set}
+use lib.ListN.{length, getD, set, length-set}
 use borrow.Author.Needs.{needs}
 use denote.Ref.{now}
+use Rattle.field.specs.Bytes.{over}
 use Rattle.number.specs.Number.{valueOf, nextOf}
 use Rattle.record.specs.Reading.{positionsAt}
 use Rattle.record.proofs.Listing.{positions-small, list-turn, list-done}
@@ -18,7 +18,7 @@ Inv-loop s m first lost₀ i₀ at₀ lost i at =
     (i ≤ m)
     × ((length lost ≡ length lost₀)
     × (((j : ℕ) → getD (positionsAt s (m - i) at) j 0 < 65536)
-    × (take i lost ++ (positionsAt s (m - i) at ++ drop m lost) ≡ positionsAt s m first ++ drop m lost₀)))
+    × (over lost i (positionsAt s (m - i) at) ≡ over lost₀ 0 (positionsAt s m first))))
 
 abbrev μ-loop : tie.MeasureT-loop
 μ-loop s m first lost₀ i₀ at₀ lost i at = m - i
@@ -32,7 +32,7 @@ loop-holds c =
         refl,
         (
           λ j. rw e (c .before .before .pre .1 j),
-          ap (λ (xs : List ℕ). xs ++ drop (a .m) (now (a .lost))) e,
+          ap (over (now (a .lost)) 0) e,
         ),
       ),
     )
@@ -77,7 +77,7 @@ loop-again c =
         simp length-set (omega arith),
         (
           λ j. rw y (positions-small (now (a .s)) (a .m) (v .i) (v .at) t (v .inv .1 .1 .0) .1 j),
-          ap (λ (n : ℕ). take (v .i + 1) (set (v .lost) (v .i) (c .before .value-of .result)) ++ (positionsAt (now (a .s)) (a .m - (v .i + 1)) n ++ drop (a .m) (set (v .lost) (v .i) (c .before .value-of .result)))) y
+          ap (λ (n : ℕ). over (set (v .lost) (v .i) (c .before .value-of .result)) (v .i + 1) (positionsAt (now (a .s)) (a .m - (v .i + 1)) n)) y
               ∙ list-turn (now (a .s)) (v .lost) (a .m) (v .i) (v .at) (c .before .value-of .result) t (omega (arith, c .before .before .before .before .before .before .before .pre .0)) (c .before .value-of .ensures ∙ ap valueOf g)
               ∙ v .inv .1 .1 .1,
         ),
@@ -91,7 +91,7 @@ returns : tie.Need-returns Inv-loop μ-loop
 returns c =
     let a = c .before .before .before .before .args in
     let v = c .before .loop in
-    sym (list-done (now (a .s)) (v .lost) (a .m) (v .i) (v .at) (c .loop-test .left) (v .inv .0)) ∙ v .inv .1 .1 .1
+    sym (list-done (now (a .s)) (v .lost) (a .m) (v .i) (v .at) (c .loop-test .left)) ∙ v .inv .1 .1 .1
 
 pub fill-lost-spec : {M : Type 1} → statement M
 fill-lost-spec =

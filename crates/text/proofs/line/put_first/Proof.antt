@@ -3,7 +3,7 @@ use borrow.Author.Needs.{needs}
 use mathlib.Core.List.{_++_}
 use denote.Ref.{now}
 use Rattle.text.specs.Text.{stripeWord, numberThen, firstLine}
-use Rattle.text.proofs.Over.{front-room, rest-room, put-then}
+use Rattle.text.proofs.Pieces.{front-room, rest-room, put-then}
 use Rattle.text.proofs.line.put_first.Statement.{statement}
 use Rattle.text.proofs.line.put_first.Tie as tie
 

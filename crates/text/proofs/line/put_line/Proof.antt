@@ -5,7 +5,7 @@ use mathlib.Core.List.{[], _∷_, _++_}
 use native.Mathlib.Omega.{arith}
 use denote.Ref.{now}
 use Rattle.text.specs.Text.{hex, decimal, keptWord, mendedWord, columnLine}
-use Rattle.text.proofs.Over.{front-room, rest-room, put-then}
+use Rattle.text.proofs.Pieces.{front-room, rest-room, put-then}
 use Rattle.text.proofs.line.put_line.Statement.{statement}
 use Rattle.text.proofs.line.put_line.Tie as tie
 

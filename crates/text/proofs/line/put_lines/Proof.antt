@@ -9,8 +9,9 @@ use native.Mathlib.Numerals.{add-one}
 use denote.Ref.{now}
 use lib.ListN.{length}
 use Rattle.stripe.proofs.Places.{column-inside}
-use Rattle.text.specs.Text.{over, columnLines}
-use Rattle.text.proofs.Over.{over-none}
+use Rattle.field.specs.Bytes.{over}
+use Rattle.text.specs.Text.{columnLines}
+use Rattle.field.proofs.Over.{over-none}
 use Rattle.text.proofs.Lines.{line-from, line-fits, lines-turn}
 use Rattle.text.proofs.line.put_lines.Statement.{statement}
 use Rattle.text.proofs.line.put_lines.Tie as tie

@@ -4,7 +4,7 @@ use mathlib.Core.List.{[], _∷_}
 use native.Mathlib.Omega.{arith}
 use denote.Ref.{now}
 use Rattle.text.specs.Text.{decimal}
-use Rattle.text.proofs.Over.{front-room, rest-room, put-then}
+use Rattle.text.proofs.Pieces.{front-room, rest-room, put-then}
 use Rattle.text.proofs.line.put_number.Statement.{statement}
 use Rattle.text.proofs.line.put_number.Tie as tie
 

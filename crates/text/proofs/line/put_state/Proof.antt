@@ -8,7 +8,7 @@ use native.Mathlib.Omega.{arith}
 use denote.Ref.{now}
 use lib.ListN.{length}
 use Rattle.text.specs.Text.{keptWord, mendedWord}
-use Rattle.text.proofs.Over.{Put}
+use Rattle.text.proofs.Pieces.{Put}
 use Rattle.text.proofs.line.put_state.Statement.{statement}
 use Rattle.text.proofs.line.put_state.Tie as tie
 

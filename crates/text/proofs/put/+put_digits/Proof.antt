@@ -3,7 +3,7 @@ use borrow.Author.Needs.{needs}
 use Prim.Native.Nat.{ℕ, _<_}
 use native.Mathlib.Omega.{arith}
 use denote.Ref.{now}
-use Rattle.text.proofs.Over.{over-long}
+use Rattle.field.proofs.Over.{over-long}
 use Rattle.text.proofs.Pieces.{last-length, more-length, none-put, last-put, more-put}
 use borrow.Fn.Kinds.{In}
 use borrow.Fn.PlainCycle.{Measures, is, falls, and}

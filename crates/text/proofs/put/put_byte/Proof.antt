@@ -1,7 +1,7 @@
 -- One byte set.
 use borrow.Author.Needs.{needs}
 use mathlib.Core.Path.{refl}
-use Rattle.text.proofs.Over.{over-one}
+use Rattle.field.proofs.Over.{over-one}
 use Rattle.text.proofs.put.put_byte.Statement.{statement}
 use Rattle.text.proofs.put.put_byte.Tie as tie
 

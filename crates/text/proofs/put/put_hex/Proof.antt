@@ -6,8 +6,9 @@ use mathlib.Core.List.{List}
 use native.Mathlib.Omega.{arith}
 use denote.Ref.{now}
 use lib.ListN.{length, take}
-use Rattle.text.specs.Text.{over, hex}
-use Rattle.text.proofs.Over.{over-none}
+use Rattle.field.specs.Bytes.{over}
+use Rattle.text.specs.Text.{hex}
+use Rattle.field.proofs.Over.{over-none}
 use Rattle.text.proofs.Pieces.{take-whole, hex-length, hex-turn}
 use Rattle.text.proofs.put.put_hex.Statement.{statement}
 use Rattle.text.proofs.put.put_hex.Tie as tie

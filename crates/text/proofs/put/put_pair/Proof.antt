@@ -5,8 +5,9 @@ use mathlib.Core.Path.{sym, ap, _∙_}
 use mathlib.Core.List.{[], _∷_}
 use native.Mathlib.Omega.{arith}
 use denote.Ref.{now}
-use Rattle.text.specs.Text.{over, hexDigit}
-use Rattle.text.proofs.Over.{over-on}
+use Rattle.field.specs.Bytes.{over}
+use Rattle.text.specs.Text.{hexDigit}
+use Rattle.field.proofs.Over.{over-on}
 use Rattle.text.proofs.Pieces.{hex-one}
 use Rattle.text.proofs.put.put_pair.Statement.{statement}
 use Rattle.text.proofs.put.put_pair.Tie as tie

@@ -5,9 +5,9 @@ use mathlib.Core.Path.{_≡_, refl, ap, _∙_}
 use native.Mathlib.Omega.{arith}
 use denote.Ref.{now}
 use lib.ListN.{length, take}
-use Rattle.text.specs.Text.{over}
-use Rattle.text.proofs.Over.{over-none}
-use Rattle.text.proofs.Pieces.{take-whole, word-turn}
+use Rattle.field.specs.Bytes.{over}
+use Rattle.field.proofs.Over.{over-none, over-turn}
+use Rattle.text.proofs.Pieces.{take-whole}
 use Rattle.text.proofs.put.put_word.Statement.{statement}
 use Rattle.text.proofs.put.put_word.Tie as tie
 
@@ -37,7 +37,7 @@ loop-again : tie.Need-loop-again Inv-loop μ-loop
 loop-again c =
     let l = c .before .before .before .before .before .before in
     let a = l .before .before .before .args in
-    let t = word-turn (now (a .out)) (now (a .word)) (l .loop .out) _ (a .at) (l .loop .next) (l .loop .q) (search needs) (l .loop .inv .1 .0)
+    let t = over-turn (now (a .out)) (now (a .word)) (l .loop .out) _ (a .at) (l .loop .next) (l .loop .q) 0 (search needs) (l .loop .inv .1 .0)
     (l .loop .inv .1 .1 .1) (c .before .before .put-byte .ensures .1) (l .before .before .before .pre) in
     (omega arith, (omega (arith, c .before .before .put-byte .ensures .0), (t .0, t .1)))
 

@@ -8,6 +8,7 @@ use native.Mathlib.Omega.{arith}
 use borrow.Author.Tests.{ne-eqb, leb-true, leb-false}
 use lib.Dec.{eqb, leb}
 use lib.ListN.{length}
+use Rattle.stripe.specs.Shape.{noShape}
 use Rattle.field.proofs.Cases.{zero-or-not}
 use Rattle.record.specs.Reading.{readRefusal, shapeOf, countOf, lostOf}
 use Rattle.mending.specs.Mend.{Mended}
@@ -75,7 +76,7 @@ outcome-lent bs a b v ys e f m =
 
 -- what is reported
 abbrev pub refusedAnswer : ℕ → Answer
-refusedAnswer v = record { number = v; shape = record { k = 0; r = 0; t = 0; l = 0 }; lost = 0 }
+refusedAnswer v = record { number = v; shape = noShape; lost = 0 }
 
 pub refused-is : (bs : List ℕ) (v : ℕ) → (v ≡ 0 → ⊥) → refusedAnswer v ≡ answerOf bs v
 refused-is bs v n =

@@ -7,7 +7,7 @@ use native.Mathlib.Omega.{arith}
 use borrow.Author.Tests.{eqb-true, eq-eqb, ne-eqb}
 use lib.Dec.{eqb, leb}
 use lib.ListN.{length, length-replicate}
-use Rattle.stripe.specs.Shape.{shapeRefusal}
+use Rattle.stripe.specs.Shape.{shapeRefusal, noShape}
 use Rattle.record.specs.declared.read.Got.{Got}
 use Rattle.record.specs.Reading.{firstOf, unless, stripeRefusal, contentRefusal, readRefusal, gotOf, shapeOf, countOf}
 use Rattle.record.proofs.Refusals.{first-zero, head-described}
@@ -23,7 +23,7 @@ abbrev pub whole : List ℕ → Got
 whole bs = record { number = 0; shape = shapeOf bs; lost = countOf bs }
 
 abbrev refused : ℕ → Got
-refused v = record { number = v; shape = record { k = 0; r = 0; t = 0; l = 0 }; lost = 0 }
+refused v = record { number = v; shape = noShape; lost = 0 }
 
 -- the number reported is the refusal
 pub got-number : (bs : List ℕ) (a b : ℕ) → gotOf bs a b .number ≡ readRefusal bs a b

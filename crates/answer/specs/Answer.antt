@@ -6,7 +6,7 @@ use mathlib.Core.Bool.{cond}
 use mathlib.Core.List.{List, [], _∷_}
 use lib.Dec.{eqb}
 use lib.ListN.{length, take, replicate}
-use Rattle.stripe.specs.Shape.{stripeLength}
+use Rattle.stripe.specs.Shape.{stripeLength, noShape}
 use Rattle.record.specs.Reading.{readRefusal, shapeOf, countOf, lostOf, columnsFilled}
 use Rattle.mending.specs.Mend.{Mended}
 use Rattle.answer.specs.declared.mended.Answer.{Answer}
@@ -35,7 +35,7 @@ pub record RecordMended (bs : List ℕ) (stripeRoom lostRoom v : ℕ) (ys : List
 abbrev pub answerOf : List ℕ → ℕ → Answer
 answerOf bs v =
     cond (eqb v 0) (record { number = 0; shape = shapeOf bs; lost = countOf bs })
-    (record { number = v; shape = record { k = 0; r = 0; t = 0; l = 0 }; lost = 0 })
+    (record { number = v; shape = noShape; lost = 0 })
 
 -- what reading and mending leave in the buffers that they work in
 pub record Worked (bs : List ℕ) (a : Answer) (xs es : List ℕ) : Type 0 where

@@ -6,6 +6,7 @@ use stripe::Shape;
 ghost use mathlib.Core.Path.{_≡_};
 ghost use Prim.Native.Nat.{_+_, _*_, _≤_};
 ghost use lib.ListN.{length};
+ghost use Rattle.stripe.specs.Shape.{noShape};
 ghost use Rattle.mending.specs.Mend.{Mended};
 ghost use Rattle.field.specs.Bytes.{over};
 ghost use Rattle.answer.specs.Answer.{pairs, blankStripe, Answered, Worked};
@@ -86,7 +87,7 @@ fn blank_pairs() -> [u8; 516]
 
 // A refusal and zeros.
 fn refused(number: u32) -> Answer
-    ensures { λ v. ⌜ v ≡ record { number = number; shape = record { k = 0; r = 0; t = 0; l = 0 }; lost = 0 } ⌝ }
+    ensures { λ v. ⌜ v ≡ record { number = number; shape = noShape; lost = 0 } ⌝ }
 {
     Answer {
         number,

@@ -8,7 +8,7 @@ use mathlib.Core.List.{List, [], _∷_}
 use lib.Dec.{leb, eqb}
 use lib.ListN.{length}
 use Rattle.stripe.specs.declared.Shape.{Shape}
-use Rattle.stripe.specs.Shape.{dataAllowed, parityAllowed, markAllowed, lengthAllowed, columns, dataLength, parityLength, stripeLength}
+use Rattle.stripe.specs.Shape.{dataAllowed, parityAllowed, markAllowed, lengthAllowed, columns, dataLength, parityLength, stripeLength, noShape}
 use Rattle.stripe.specs.Column.{columnOf}
 use Rattle.coding.specs.Encode.{encodeRefusal, encoded}
 use Rattle.lost.specs.Positions.{positions, ascending}
@@ -167,7 +167,7 @@ mendedAnswer bs = record { number = 0; shape = recordShape bs; lost = countOf bs
 
 -- the answer with a refusal: zeros
 abbrev pub refusedAnswer : ℕ → Answer
-refusedAnswer n = record { number = n; shape = record { k = 0; r = 0; t = 0; l = 0 }; lost = 0 }
+refusedAnswer n = record { number = n; shape = noShape; lost = 0 }
 
 -- the text that is printed with the number n: the mended stripe ys, or the refusal alone
 abbrev pub textWith : List ℕ → ℕ → List ℕ → List ℕ

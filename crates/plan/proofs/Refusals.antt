@@ -4,7 +4,7 @@ use mathlib.Core.Bool.{Bool, true, false, cond}
 use Prim.Native.Nat.{ℕ, _*_}
 use borrow.Author.Tests.{eq-eqb, ne-eqb}
 use Rattle.stripe.specs.declared.Shape.{Shape}
-use Rattle.stripe.specs.Shape.{shapeRefusal}
+use Rattle.stripe.specs.Shape.{shapeRefusal, noShape}
 use Rattle.plan.specs.Plan.{foldRefusal, stripesAllowed, newAllowed, wideShape, wideAnswer, columnsEach, bytesEach, columnsRead, bytesRead, kindOf}
 use Rattle.plan.proofs.Foldable.{all-passed}
 
@@ -42,10 +42,10 @@ module _ (s : Shape) (n f : ℕ) where
     unfolding bytesRead
     no-bytes = sym (ap (λ (b : Bool). cond b (n * bytesEach (kindOf s f) s f) 0) (ne-eqb (foldRefusal s n f) 0 refused))
 
-    pub no-shape : wideAnswer s n f ≡ record { k = 0; r = 0; t = 0; l = 0 }
+    pub no-shape : wideAnswer s n f ≡ noShape
     unfolding wideAnswer
-    no-shape = ap (λ (b : Bool). cond b (wideShape s n f) (record { k = 0; r = 0; t = 0; l = 0 })) (ne-eqb (foldRefusal s n f) 0 refused)
+    no-shape = ap (λ (b : Bool). cond b (wideShape s n f) noShape) (ne-eqb (foldRefusal s n f) 0 refused)
 
   pub a-shape : foldRefusal s n f ≡ 0 → wideAnswer s n f ≡ wideShape s n f
   unfolding wideAnswer
-  a-shape e = ap (λ (b : Bool). cond b (wideShape s n f) (record { k = 0; r = 0; t = 0; l = 0 })) (eq-eqb (foldRefusal s n f) 0 e)
+  a-shape e = ap (λ (b : Bool). cond b (wideShape s n f) noShape) (eq-eqb (foldRefusal s n f) 0 e)

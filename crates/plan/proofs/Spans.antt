@@ -17,7 +17,7 @@ use Rattle.stripe.proofs.Places.{place-some, place-column-lt, place-byte-lt}
 use Rattle.plan.specs.declared.Kind.{Kind}
 use Rattle.plan.specs.declared.Kind.the-variants.{A, B, C}
 use Rattle.plan.specs.declared.Span.{Span}
-use Rattle.plan.specs.Plan.{foldRefusal, kindOf, columnSpans, kindSpans, spansFrom, plan, columnSpan, spanAt, columnsEach, columnsRead}
+use Rattle.plan.specs.Plan.{foldRefusal, kindOf, columnSpans, kindSpans, spansFrom, plan, columnSpan, spanAt, columnsEach, columnsRead, noSpan}
 use Rattle.plan.proofs.Foldable.{foldable}
 use Rattle.plan.proofs.Costs.{columns-read}
 use Rattle.plan.proofs.Bounds.{each-small}
@@ -88,14 +88,11 @@ from-at s f n (suc m) i d h =
     (kind-many (kindOf s f) s f n) (λ x k. kind-at (kindOf s f) s f n x d k) (λ x k. from-at s f (suc n) m x d k)
     i h (below-or-from i (columnsEach (kindOf s f) s f))
 
-abbrev none : Span
-none = record { stripe = 0; position = 0; first = 0; length = 0 }
-
 module _ (s : Shape) (n f i : ℕ) where
   -- past the plan's end there is no span
-  pub span-none : columnsRead s n f ≤ i → spanAt s n f i ≡ none
+  pub span-none : columnsRead s n f ≤ i → spanAt s n f i ≡ noSpan
   unfolding spanAt
-  span-none h = List·getD-eq-default (plan s n f) none (subst (λ (x : ℕ). x ≤ i) (sym (columns-counted s n f)) h)
+  span-none h = List·getD-eq-default (plan s n f) noSpan (subst (λ (x : ℕ). x ≤ i) (sym (columns-counted s n f)) h)
 
   -- where there is one the fold is not refused
   pub span-allowed : i < columnsRead s n f → foldRefusal s n f ≡ 0
@@ -110,8 +107,8 @@ module _ (s : Shape) (n f i : ℕ) where
       → spanAt s n f i ≡ columnSpan (kindOf s f) s (i / columnsEach (kindOf s f) s f) (i % columnsEach (kindOf s f) s f)
   unfolding spanAt plan
   span-by-column passed h =
-      ap (λ (b : Bool). getD (cond b (spansFrom s f 0 n) []) i none) (eq-eqb (foldRefusal s n f) 0 passed)
-      ∙ from-at s f 0 n i none h
+      ap (λ (b : Bool). getD (cond b (spansFrom s f 0 n) []) i noSpan) (eq-eqb (foldRefusal s n f) 0 passed)
+      ∙ from-at s f 0 n i noSpan h
       ∙ ap (λ (x : ℕ). columnSpan (kindOf s f) s x (i % columnsEach (kindOf s f) s f)) (omega arith)
 
 -- what is known of a number below the count, x columns being read of each stripe

@@ -6,7 +6,7 @@ use mathlib.Core.List.{List, [], _∷_, _++_}
 use lib.Dec.{leb, ltb, eqb}
 use lib.ListN.{getD}
 use Rattle.stripe.specs.declared.Shape.{Shape}
-use Rattle.stripe.specs.Shape.{shapeRefusal, mostData, mostRows}
+use Rattle.stripe.specs.Shape.{shapeRefusal, mostData, mostRows, noShape}
 use Rattle.plan.specs.declared.Kind.{Kind}
 use Rattle.plan.specs.declared.Kind.the-variants.{A, B, C}
 use Rattle.plan.specs.declared.Span.{Span}
@@ -60,9 +60,13 @@ columnSpan B s n i =
     (record { stripe = n; position = i; first = 0; length = s .l })
 columnSpan C s n i = record { stripe = n; position = i; first = 0; length = s .l }
 
+-- a span of no bytes
+abbrev pub noSpan : Span
+noSpan = record { stripe = 0; position = 0; first = 0; length = 0 }
+
 -- span number i of the plan, and a span of no bytes past its end
 unfoldable pub spanAt : Shape → ℕ → ℕ → ℕ → Span
-spanAt s n f i = getD (plan s n f) i (record { stripe = 0; position = 0; first = 0; length = 0 })
+spanAt s n f i = getD (plan s n f) i noSpan
 
 -- the lengths of spans, summed
 unfoldable pub summed : List Span → ℕ
@@ -99,4 +103,4 @@ wideShape s n f = record { k = n * s .k; r = f; t = 0; l = s .l }
 
 -- the same, and where the fold is refused a shape of no columns, which is never allowed
 unfoldable pub wideAnswer : Shape → ℕ → ℕ → Shape
-wideAnswer s n f = cond (eqb (foldRefusal s n f) 0) (wideShape s n f) (record { k = 0; r = 0; t = 0; l = 0 })
+wideAnswer s n f = cond (eqb (foldRefusal s n f) 0) (wideShape s n f) noShape

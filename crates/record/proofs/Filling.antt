@@ -11,7 +11,7 @@ use borrow.Author.Tests.{le-leb, lt-leb, eq-eqb, ne-eqb}
 use Rattle.field.specs.Bytes.{over}
 use Rattle.field.proofs.Over.{over-front}
 use Rattle.stripe.specs.declared.Shape.{Shape}
-use Rattle.stripe.specs.Shape.{columns, stripeLength}
+use Rattle.stripe.specs.Shape.{columns, stripeLength, noShape}
 use Rattle.record.specs.declared.read.Got.{Got}
 use Rattle.record.specs.declared.read.Verdict.the-variants.{Lawful}
 use Rattle.record.specs.Layout.{kept, restored}
@@ -113,7 +113,7 @@ module _ (s : List ℕ) (a b : ℕ) where
 
 -- ---- the outcomes of reading
 
-pub read-refused : (s xs es : List ℕ) (num : ℕ) (g : Got) → g ≡ record { number = num; shape = record { k = 0; r = 0; t = 0; l = 0 }; lost = 0 }
+pub read-refused : (s xs es : List ℕ) (num : ℕ) (g : Got) → g ≡ record { number = num; shape = noShape; lost = 0 }
     → num ≡ readRefusal s (length xs) (length es) → (num ≡ 0 → ⊥)
     → (g ≡ gotOf s (length xs) (length es)) × ((xs ≡ stripeRead s xs (length es)) × (es ≡ lostRead s (length xs) es))
 read-refused s xs es num g e q z =

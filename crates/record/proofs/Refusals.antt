@@ -8,7 +8,7 @@ use lib.Dec.{leb, ltb, eqb}
 use lib.ListN.{length}
 use borrow.Author.Tests.{lt-ltb, le-ltb, le-leb, lt-leb, eq-eqb, ne-eqb, leb-true, eqb-true, eqb-false}
 use Rattle.stripe.specs.declared.Shape.{Shape}
-use Rattle.stripe.specs.Shape.{shapeRefusal, columns, stripeLength}
+use Rattle.stripe.specs.Shape.{shapeRefusal, columns, stripeLength, noShape}
 use Rattle.stripe.proofs.Allowed.{Allowed, allowed}
 use Rattle.number.specs.declared.Number.{Number}
 use Rattle.record.specs.declared.read.Got.{Got}
@@ -294,5 +294,5 @@ judged-rest s e =
     ap (λ (num : ℕ). cond (eqb num 0) (Lawful (shapeOf s) (countOf s) (nextOf (countNumber s)) (columnsStart s)) (Refused num)) (content-rest s e)
 
 pub got-refused : (num : ℕ) (v : Shape) → (v .k ≡ 0) × ((v .r ≡ 0) × ((v .t ≡ 0) × (v .l ≡ 0)))
-    → _≡_ {A = Got} (record { number = num; shape = v; lost = 0 }) (record { number = num; shape = record { k = 0; r = 0; t = 0; l = 0 }; lost = 0 })
+    → _≡_ {A = Got} (record { number = num; shape = v; lost = 0 }) (record { number = num; shape = noShape; lost = 0 })
 got-refused num v e = ap (λ (w : Shape). got num w) (shape-is v 0 0 0 0 (e .0) (e .1 .0) (e .1 .1 .0) (e .1 .1 .1))

@@ -7,7 +7,7 @@ use lib.Dec.{leb, ltb, eqb}
 use lib.ListN.{length, drop}
 use Rattle.field.specs.Bytes.{over}
 use Rattle.stripe.specs.declared.Shape.{Shape}
-use Rattle.stripe.specs.Shape.{shapeRefusal, columns, stripeLength}
+use Rattle.stripe.specs.Shape.{shapeRefusal, columns, stripeLength, noShape}
 use Rattle.number.specs.declared.Number.{Number}
 use Rattle.record.specs.declared.read.Got.{Got}
 use Rattle.record.specs.declared.read.Head.{Head}
@@ -117,7 +117,7 @@ readRefusal s stripeRoom lostRoom =
 abbrev pub gotOf : List ℕ → ℕ → ℕ → Got
 gotOf s stripeRoom lostRoom =
     cond (eqb (readRefusal s stripeRoom lostRoom) 0) (record { number = 0; shape = shapeOf s; lost = countOf s })
-    (record { number = readRefusal s stripeRoom lostRoom; shape = record { k = 0; r = 0; t = 0; l = 0 }; lost = 0 })
+    (record { number = readRefusal s stripeRoom lostRoom; shape = noShape; lost = 0 })
 
 -- the surviving columns put in their places of a stripe buffer, and the lost positions at the front of a list
 abbrev pub columnsFilled : List ℕ → List ℕ → List ℕ

@@ -7,6 +7,7 @@ use stripe::Shape;
 ghost use mathlib.Core.Path.{_≡_};
 ghost use Prim.Native.Nat.{ℕ, _+_, _-_, _<_, _≤_};
 ghost use lib.ListN.{length, getD};
+ghost use Rattle.stripe.specs.Shape.{noShape};
 ghost use Rattle.field.specs.Bytes.{over};
 ghost use Rattle.number.specs.Number.{valueOf, nextOf};
 ghost use Rattle.record.specs.Reading.{stripeRefusal, headOf, positionRefusal, listedOf, columnsRefusal, restOf, verdictOf, positionsAt, columnsFilled, positionsFilled, gotOf, stripeRead, lostRead};
@@ -250,7 +251,7 @@ fn fill(
 
 // A refusal with nothing read.
 fn refused(number: u32) -> Got
-    ensures { λ r. ⌜ r ≡ record { number = number; shape = record { k = 0; r = 0; t = 0; l = 0 }; lost = 0 } ⌝ }
+    ensures { λ r. ⌜ r ≡ record { number = number; shape = noShape; lost = 0 } ⌝ }
 {
     Got {
         number,

@@ -49,6 +49,10 @@ unfoldable pub shapeRefusal : Shape → ℕ
 shapeRefusal s =
     cond (dataAllowed (s .k) && parityAllowed (s .r) && markAllowed (s .k) (s .r) (s .t)) (cond (lengthAllowed (s .t) (s .l)) 0 2) 1
 
+-- the shape of no columns, which is refused; it stands where there is no shape to report
+abbrev pub noShape : Shape
+noShape = record { k = 0; r = 0; t = 0; l = 0 }
+
 -- n, the number of columns
 abbrev pub columns : Shape → ℕ
 columns s = s .k + s .r

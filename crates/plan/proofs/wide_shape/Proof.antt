@@ -1,6 +1,7 @@
 -- `wide_shape` meets its contract: a refused fold has no wide shape, and any other the one by definition.
 use mathlib.Core.Path.{sym, _∙_}
 use native.Mathlib.Omega.{arith}
+use Rattle.stripe.specs.Shape.{noShape}
 use Rattle.stripe.proofs.Unique.{same-shape}
 use Rattle.plan.specs.Plan.{wideShape}
 use Rattle.plan.proofs.Foldable.{foldable}
@@ -19,7 +20,7 @@ new-requires c κs = search needs
 returns : tie.Need-returns
 returns c =
     let e = c .new .ensures in
-    same-shape _ (record { k = 0; r = 0; t = 0; l = 0 }) (e .0) (e .1 .0) (e .1 .1 .0) (e .1 .1 .1)
+    same-shape _ noShape (e .0) (e .1 .0) (e .1 .1 .0) (e .1 .1 .1)
     ∙ sym (no-shape _ _ _ (λ z. c .before .if1 .taken (c .before .before .fold-refusal .ensures ∙ z)))
 
 mul-new : tie.Need-mul-new

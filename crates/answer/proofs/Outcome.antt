@@ -10,7 +10,7 @@ use lib.Dec.{eqb, leb}
 use lib.ListN.{length}
 use Rattle.stripe.specs.Shape.{noShape}
 use Rattle.field.proofs.Cases.{zero-or-not}
-use Rattle.record.specs.Reading.{readRefusal, shapeOf, countOf, lostOf}
+use Rattle.record.specs.Reading.{readRefusal, shapeRead, countOf, lostListed}
 use Rattle.mending.specs.Mend.{Mended}
 use Rattle.mending.proofs.Outcome.{mended-one}
 use Rattle.answer.specs.declared.mended.Answer.{Answer}
@@ -26,7 +26,7 @@ pub outcome-one : (bs : List ℕ) (a b v v′ : ℕ) (ys ys′ : List ℕ) → R
 outcome-one bs a b v v′ ys ys′ m m′ = go (zero-or-not (readRefusal bs a b))
   where
     go : (readRefusal bs a b ≡ 0) ⊎ (readRefusal bs a b ≡ 0 → ⊥) → (v ≡ v′) × (ys ≡ ys′)
-    go (inl z) = mended-one (shapeOf bs) (pairs (lostOf bs)) (described bs) v v′ ys ys′ (m .readWhole z) (m′ .readWhole z)
+    go (inl z) = mended-one (shapeRead bs) (pairs (lostListed bs)) (described bs) v v′ ys ys′ (m .readWhole z) (m′ .readWhole z)
     go (inr n) = (m .unread n .0 ∙ sym (m′ .unread n .0), m .unread n .1 ∙ sym (m′ .unread n .1))
 
 pub answered-one : (bs xs es : List ℕ) (a a′ : Answer) (ys ys′ fs fs′ : List ℕ) → Answered bs xs es a ys fs → Answered bs xs es a′ ys′ fs′
@@ -36,14 +36,14 @@ answered-one bs xs es a a′ ys ys′ fs fs′ p q =
       p .reported ∙ ap (answerOf bs) (o .0) ∙ sym (q .reported),
       (
         p .stripe ∙ ap₂ (λ (n : ℕ) (l : List ℕ). cond (eqb n 0) (over xs 0 l) xs) (o .0) (o .1) ∙ sym (q .stripe),
-        p .list ∙ ap (λ (n : ℕ). cond (eqb n 0) (over es 0 (lostOf bs)) es) (o .0) ∙ sym (q .list),
+        p .list ∙ ap (λ (n : ℕ). cond (eqb n 0) (over es 0 (lostListed bs)) es) (o .0) ∙ sym (q .list),
       ),
     )
 
 pub text-one : (bs t t′ : List ℕ) → TextOf bs t → TextOf bs t′ → t ≡ t′
 text-one bs t t′ p q =
     let o = outcome-one bs 65536 258 (p .number) (q .number) (p .bytes) (q .bytes) (p .outcome) (q .outcome) in
-    p .lines ∙ ap₂ (λ (n : ℕ) (l : List ℕ). cond (eqb n 0) (stripeText (shapeOf bs) (lostOf bs) l) (refusalText n)) (o .0) (o .1) ∙ sym (q .lines)
+    p .lines ∙ ap₂ (λ (n : ℕ) (l : List ℕ). cond (eqb n 0) (stripeText (shapeRead bs) (lostListed bs) l) (refusalText n)) (o .0) (o .1) ∙ sym (q .lines)
 
 pub printed-one : (bs out : List ℕ) (v v′ : ℕ) (out′ out″ : List ℕ) → Printed bs out v out′ → Printed bs out v′ out″ → (v ≡ v′) × (out′ ≡ out″)
 printed-one bs out v v′ out′ out″ p q = go (leb textRoom (length out)) refl
@@ -66,7 +66,7 @@ printed-one bs out v v′ out′ out″ p q = go (leb textRoom (length out)) ref
 pub outcome-unread : (bs : List ℕ) (a b v : ℕ) → v ≡ readRefusal bs a b → (v ≡ 0 → ⊥) → RecordMended bs a b v []
 outcome-unread bs a b v e n = record { unread = λ _. (e, refl); readWhole = λ z. absurd (n (e ∙ z)) }
 
-pub outcome-read : (bs : List ℕ) (a b v : ℕ) (ys : List ℕ) → readRefusal bs a b ≡ 0 → Mended (shapeOf bs) (pairs (lostOf bs)) (described bs) v ys
+pub outcome-read : (bs : List ℕ) (a b v : ℕ) (ys : List ℕ) → readRefusal bs a b ≡ 0 → Mended (shapeRead bs) (pairs (lostListed bs)) (described bs) v ys
     → RecordMended bs a b v ys
 outcome-read bs a b v ys z m = record { unread = λ n. absurd (n z); readWhole = λ _. m }
 
@@ -80,7 +80,7 @@ refusedAnswer v = record { number = v; shape = noShape; lost = 0 }
 
 pub refused-is : (bs : List ℕ) (v : ℕ) → (v ≡ 0 → ⊥) → refusedAnswer v ≡ answerOf bs v
 refused-is bs v n =
-    ap (λ (p : Bool). cond p (record { number = 0; shape = shapeOf bs; lost = countOf bs }) (refusedAnswer v)) (sym (ne-eqb v 0 n))
+    ap (λ (p : Bool). cond p (record { number = 0; shape = shapeRead bs; lost = countOf bs }) (refusedAnswer v)) (sym (ne-eqb v 0 n))
 
 pub worked-refused : (bs xs es ys : List ℕ) (v : ℕ) (a : Answer) → RecordMended bs 65536 258 v ys → (v ≡ 0 → ⊥) → a ≡ refusedAnswer v → Worked bs a xs es
 worked-refused bs xs es ys v a m n e =
@@ -96,13 +96,13 @@ answered-refused bs xs es ys v a m n e =
       outcome = m;
       reported = refused-is bs v n;
       stripe = ap (λ (p : Bool). cond p (over xs 0 ys) xs) (sym (ne-eqb v 0 n));
-      list = ap (λ (p : Bool). cond p (over es 0 (lostOf bs)) es) (sym (ne-eqb v 0 n));
+      list = ap (λ (p : Bool). cond p (over es 0 (lostListed bs)) es) (sym (ne-eqb v 0 n));
     }
 
 -- ---- the text of an outcome
 
 module _ (bs out out′ : List ℕ) (v number : ℕ) (ys : List ℕ) (m : RecordMended bs 65536 258 number ys) (room : textRoom ≤ length out) where
-  pub printed-front : (text : List ℕ) → text ≡ cond (eqb number 0) (stripeText (shapeOf bs) (lostOf bs) ys) (refusalText number)
+  pub printed-front : (text : List ℕ) → text ≡ cond (eqb number 0) (stripeText (shapeRead bs) (lostListed bs) ys) (refusalText number)
       → v ≡ length text → out′ ≡ over out 0 text → Printed bs out v out′
   printed-front text e f g =
       record {
@@ -115,7 +115,7 @@ module _ (bs out out′ : List ℕ) (v number : ℕ) (ys : List ℕ) (m : Record
   refusal-front n f g =
       printed-front (refusalPrinted number (length out))
       (printed-refusal number (length out) (omega arith)
-      ∙ ap (λ (p : Bool). cond p (stripeText (shapeOf bs) (lostOf bs) ys) (refusalText number)) (sym (ne-eqb number 0 n))) f g
+      ∙ ap (λ (p : Bool). cond p (stripeText (shapeRead bs) (lostListed bs) ys) (refusalText number)) (sym (ne-eqb number 0 n))) f g
 
 pub printed-cramped : (bs out : List ℕ) → length out < textRoom → Printed bs out 0 out
 printed-cramped bs out h = record { cramped = λ _. (refl, refl); roomy = λ r. absurd (omega arith) }

@@ -9,7 +9,7 @@ use lib.Dec.{eqb, leb}
 use lib.ListN.{length, length-replicate}
 use Rattle.stripe.specs.Shape.{shapeRefusal, noShape}
 use Rattle.record.specs.declared.read.Got.{Got}
-use Rattle.record.specs.Reading.{firstOf, unless, stripeRefusal, contentRefusal, readRefusal, gotOf, shapeOf, countOf}
+use Rattle.record.specs.Reading.{firstOf, unless, stripeRefusal, contentRefusal, readRefusal, gotOf, shapeRead, countOf}
 use Rattle.record.proofs.Refusals.{first-zero, head-described}
 use Rattle.record.proofs.Accepted.{Accepted, accepted}
 use Rattle.answer.specs.Answer.{blankStripe}
@@ -20,7 +20,7 @@ blank-long = length-replicate {A = ℕ} 65536 0
 
 -- the two reports
 abbrev pub whole : List ℕ → Got
-whole bs = record { number = 0; shape = shapeOf bs; lost = countOf bs }
+whole bs = record { number = 0; shape = shapeRead bs; lost = countOf bs }
 
 abbrev refused : ℕ → Got
 refused v = record { number = v; shape = noShape; lost = 0 }
@@ -47,7 +47,7 @@ module _ (bs : List ℕ) (a b : ℕ) (z : readRefusal bs a b ≡ 0) where
   pub count-most : countOf bs ≤ 258
   count-most = let s = read-says in omega (arith, s .few, s .shape-allowed .data-most, s .shape-allowed .parity-most)
 
-  pub read-shaped : shapeRefusal (shapeOf bs) ≡ 0
+  pub read-shaped : shapeRefusal (shapeRead bs) ≡ 0
   unfolding stripeRefusal
   read-shaped = first-zero _ _ (head-described bs (read-says .head-read)) .0
 

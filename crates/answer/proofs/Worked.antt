@@ -12,7 +12,7 @@ use Rattle.field.proofs.Cases.{zero-or-not}
 use Rattle.stripe.specs.declared.Shape.{Shape}
 use Rattle.stripe.specs.Shape.{shapeRefusal, columns, stripeLength}
 use Rattle.record.specs.declared.read.Got.{Got}
-use Rattle.record.specs.Reading.{readRefusal, gotOf, stripeRead, lostRead, shapeOf, countOf, lostOf, columnsFilled, positionsFilled}
+use Rattle.record.specs.Reading.{readRefusal, gotOf, stripeRead, lostRead, shapeRead, countOf, lostListed, columnsFilled, positionsFilled}
 use Rattle.record.proofs.Listing.{positions-length}
 use Rattle.mending.specs.Mend.{Mended}
 use Rattle.answer.specs.declared.mended.Answer.{Answer}
@@ -24,7 +24,7 @@ use Rattle.answer.proofs.Reading.{blank-long, whole, got-number, got-wh
 use Rattle.text.proofs.Printed.{printed}
 use Rattle.answer.proofs.Outcome.{outcome-read, outcome-lent, printed-front}
 
-lost-long : (bs : List ℕ) → length (lostOf bs) ≡ countOf bs
+lost-long : (bs : List ℕ) → length (lostListed bs) ≡ countOf bs
 lost-long bs = positions-length bs (countOf bs) _
 
 -- ---- the buffers after reading
@@ -47,7 +47,7 @@ module _ (bs held₀ list₀ : List ℕ) (got : Got) (held list : List ℕ) (pre
     got-is : got ≡ whole bs
     got-is = e .0 ∙ got-whole bs (length held₀) (length list₀) here
 
-    pub shape-is : got .shape ≡ shapeOf bs
+    pub shape-is : got .shape ≡ shapeRead bs
     shape-is = ap (λ (g : Got). g .shape) got-is
 
     pub lost-is : got .lost ≡ countOf bs
@@ -75,16 +75,16 @@ module _ (bs held₀ list₀ : List ℕ) (got : Got) (held list : List ℕ) (pre
     pub front-is : take ((got .shape .k + got .shape .r) * got .shape .l) held ≡ described bs
     front-is = ap₂ (λ (n : ℕ) (l : List ℕ). take n l) (ap stripeLength shape-is) held-is
 
-    pub listed-is : take (got .lost) list ≡ lostOf bs
-    listed-is = ap₂ (λ (n : ℕ) (l : List ℕ). take n l) lost-is list-is ∙ ap (take (countOf bs)) (over-front list₀ (lostOf bs))
-        ∙ take-at (lostOf bs) _ (countOf bs) (lost-long bs)
+    pub listed-is : take (got .lost) list ≡ lostListed bs
+    listed-is = ap₂ (λ (n : ℕ) (l : List ℕ). take n l) lost-is list-is ∙ ap (take (countOf bs)) (over-front list₀ (lostListed bs))
+        ∙ take-at (lostListed bs) _ (countOf bs) (lost-long bs)
 
     -- the buffers mended
     module _ (v : ℕ) (ys : List ℕ) (m : Mended (got .shape) (pairs (take (got .lost) list)) (take ((got .shape .k + got .shape .r) * got .shape .l) held) v ys) where
       pub mended-outcome : RecordMended bs 65536 258 v ys
       mended-outcome =
           outcome-read bs 65536 258 v ys none-refused
-          (subst (λ (s : Shape). Mended s (pairs (lostOf bs)) (described bs) v ys) shape-is
+          (subst (λ (s : Shape). Mended s (pairs (lostListed bs)) (described bs) v ys) shape-is
           (subst (λ (es : List ℕ). Mended (got .shape) (pairs es) (described bs) v ys) listed-is
           (subst (λ (xs : List ℕ). Mended (got .shape) (pairs (take (got .lost) list)) xs v ys) front-is m)))
 
@@ -109,10 +109,10 @@ module _ (bs : List ℕ) (a : Answer) (xs es : List ℕ) (w : Worked bs a xs es)
       go (inl e) = e
       go (inr n) = sym (w .outcome .unread n .0) ∙ z
 
-  answer-is : a ≡ record { number = 0; shape = shapeOf bs; lost = countOf bs }
+  answer-is : a ≡ record { number = 0; shape = shapeRead bs; lost = countOf bs }
   answer-is = w .reported ∙ ap (answerOf bs) z
 
-  pub answer-shape : a .shape ≡ shapeOf bs
+  pub answer-shape : a .shape ≡ shapeRead bs
   answer-shape = ap (λ (b : Answer). b .shape) answer-is
 
   pub answer-lost : a .lost ≡ countOf bs
@@ -132,7 +132,7 @@ module _ (bs : List ℕ) (a : Answer) (xs es : List ℕ) (w : Worked bs a xs es)
   pub answer-bytes : take ((a .shape .k + a .shape .r) * a .shape .l) xs ≡ w .bytes
   answer-bytes = ap (λ (s : Shape). take (stripeLength s) xs) answer-shape ∙ w .stripe z
 
-  pub answer-positions : take (a .lost) es ≡ lostOf bs
+  pub answer-positions : take (a .lost) es ≡ lostListed bs
   answer-positions = ap (λ (n : ℕ). take n es) answer-lost ∙ w .list z
 
   -- the buffers handed out
@@ -145,7 +145,7 @@ module _ (bs : List ℕ) (a : Answer) (xs es : List ℕ) (w : Worked bs a xs es)
         outcome = outcome-lent bs (length xs₀) (length es₀) (a .number) (w .bytes) e f (w .outcome);
         reported = w .reported;
         stripe = g ∙ ap (over xs₀ 0) answer-bytes ∙ ap (λ (p : Bool). cond p (over xs₀ 0 (w .bytes)) xs₀) zero;
-        list = h ∙ ap (over es₀ 0) answer-positions ∙ ap (λ (p : Bool). cond p (over es₀ 0 (lostOf bs)) es₀) zero;
+        list = h ∙ ap (over es₀ 0) answer-positions ∙ ap (λ (p : Bool). cond p (over es₀ 0 (lostListed bs)) es₀) zero;
       }
 
   -- the buffers printed
@@ -161,14 +161,14 @@ module _ (bs : List ℕ) (a : Answer) (xs es : List ℕ) (w : Worked bs a xs es)
           le-leb textRoom (length out) room,
         )
 
-    text-is : stripeText (a .shape) es₁ xs₁ ≡ stripeText (shapeOf bs) (lostOf bs) (w .bytes)
+    text-is : stripeText (a .shape) es₁ xs₁ ≡ stripeText (shapeRead bs) (lostListed bs) (w .bytes)
     text-is =
         ap (λ (s : Shape). stripeText s es₁ xs₁) answer-shape
-        ∙ ap₂ (λ (l x : List ℕ). stripeText (shapeOf bs) l x) (f ∙ answer-positions) (e ∙ answer-bytes)
+        ∙ ap₂ (λ (l x : List ℕ). stripeText (shapeRead bs) l x) (f ∙ answer-positions) (e ∙ answer-bytes)
 
     pub text-front : (v : ℕ) (out′ : List ℕ) → v ≡ length (stripePrinted (a .shape) es₁ xs₁ (length out))
         → out′ ≡ over out 0 (stripePrinted (a .shape) es₁ xs₁ (length out)) → Printed bs out v out′
     text-front v out′ g h =
         printed-front bs out out′ v (a .number) (w .bytes) (w .outcome) room (stripePrinted (a .shape) es₁ xs₁ (length out))
         (printed (a .shape) es₁ xs₁ (length out) can ∙ text-is
-        ∙ ap (λ (p : Bool). cond p (stripeText (shapeOf bs) (lostOf bs) (w .bytes)) (refusalText (a .number))) (sym (eq-eqb (a .number) 0 z))) g h
+        ∙ ap (λ (p : Bool). cond p (stripeText (shapeRead bs) (lostListed bs) (w .bytes)) (refusalText (a .number))) (sym (eq-eqb (a .number) 0 z))) g h

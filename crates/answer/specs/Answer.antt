@@ -7,7 +7,7 @@ use mathlib.Core.List.{List, [], _∷_}
 use lib.Dec.{eqb}
 use lib.ListN.{length, take, replicate}
 use Rattle.stripe.specs.Shape.{stripeLength, noShape}
-use Rattle.record.specs.Reading.{readRefusal, shapeOf, countOf, lostOf, columnsFilled}
+use Rattle.record.specs.Reading.{readRefusal, shapeRead, countOf, lostListed, columnsFilled}
 use Rattle.mending.specs.Mend.{Mended}
 use Rattle.answer.specs.declared.mended.Answer.{Answer}
 use Rattle.field.specs.Bytes.{over}
@@ -24,17 +24,17 @@ blankStripe = replicate 65536 0
 
 -- the stripe that a record describes; what stands in its lost columns counts for nothing, here it is zeros
 abbrev pub described : List ℕ → List ℕ
-described bs = take (stripeLength (shapeOf bs)) (columnsFilled bs blankStripe)
+described bs = take (stripeLength (shapeRead bs)) (columnsFilled bs blankStripe)
 
 -- the outcome of a record with lent buffers of these lengths: the number v, and the mended stripe ys
 pub record RecordMended (bs : List ℕ) (stripeRoom lostRoom v : ℕ) (ys : List ℕ) : Type 0 where
   pub unread : (readRefusal bs stripeRoom lostRoom ≡ 0 → ⊥) → (v ≡ readRefusal bs stripeRoom lostRoom) × (ys ≡ [])
-  pub readWhole : readRefusal bs stripeRoom lostRoom ≡ 0 → Mended (shapeOf bs) (pairs (lostOf bs)) (described bs) v ys
+  pub readWhole : readRefusal bs stripeRoom lostRoom ≡ 0 → Mended (shapeRead bs) (pairs (lostListed bs)) (described bs) v ys
 
 -- what is reported with a number: the shape and the number of lost columns, zeros with a refusal
 abbrev pub answerOf : List ℕ → ℕ → Answer
 answerOf bs v =
-    cond (eqb v 0) (record { number = 0; shape = shapeOf bs; lost = countOf bs })
+    cond (eqb v 0) (record { number = 0; shape = shapeRead bs; lost = countOf bs })
     (record { number = v; shape = noShape; lost = 0 })
 
 -- what reading and mending leave in the buffers that they work in
@@ -42,8 +42,8 @@ pub record Worked (bs : List ℕ) (a : Answer) (xs es : List ℕ) : Type 0 where
   pub bytes : List ℕ
   pub outcome : RecordMended bs 65536 258 (a .number) bytes
   pub reported : a ≡ answerOf bs (a .number)
-  pub stripe : a .number ≡ 0 → take (stripeLength (shapeOf bs)) xs ≡ bytes
-  pub list : a .number ≡ 0 → take (countOf bs) es ≡ lostOf bs
+  pub stripe : a .number ≡ 0 → take (stripeLength (shapeRead bs)) xs ≡ bytes
+  pub list : a .number ≡ 0 → take (countOf bs) es ≡ lostListed bs
 
 -- the answer for a record with a lent buffer xs and a lent list es, which become xs′ and es′: the mended stripe and the lost positions
 -- stand at their fronts; a refusal leaves both
@@ -52,14 +52,14 @@ pub record Answered (bs xs es : List ℕ) (a : Answer) (xs′ es′ : List ℕ) 
   pub outcome : RecordMended bs (length xs) (length es) (a .number) bytes
   pub reported : a ≡ answerOf bs (a .number)
   pub stripe : xs′ ≡ cond (eqb (a .number) 0) (over xs 0 bytes) xs
-  pub list : es′ ≡ cond (eqb (a .number) 0) (over es 0 (lostOf bs)) es
+  pub list : es′ ≡ cond (eqb (a .number) 0) (over es 0 (lostListed bs)) es
 
 -- what the program prints for a record
 pub record TextOf (bs text : List ℕ) : Type 0 where
   pub number : ℕ
   pub bytes : List ℕ
   pub outcome : RecordMended bs 65536 258 number bytes
-  pub lines : text ≡ cond (eqb number 0) (stripeText (shapeOf bs) (lostOf bs) bytes) (refusalText number)
+  pub lines : text ≡ cond (eqb number 0) (stripeText (shapeRead bs) (lostListed bs) bytes) (refusalText number)
 
 -- the text stands at the front of out, which becomes out′, and v is its length
 pub record Front (bs out : List ℕ) (v : ℕ) (out′ : List ℕ) : Type 0 where

@@ -30,7 +30,7 @@ use Rattle.record.specs.declared.read.Got.{Got}
 use Rattle.writing.specs.declared.Written.{Written}
 use Rattle.record.specs.Layout.{recordOf, survivors, restored}
 use Rattle.writing.specs.Writing.{LaidOut}
-use Rattle.record.specs.Reading.{shapeOf as recordShape, firstOf, unless, countOf, lostOf, columnsFilled, positionsFilled, stripeRefusal, contentRefusal, readRefusal}
+use Rattle.record.specs.Reading.{shapeRead, firstOf, unless, countOf, lostListed, columnsFilled, positionsFilled, stripeRefusal, contentRefusal, readRefusal}
 use Rattle.writing.specs.Writing.{writeRefusal}
 use Rattle.answer.specs.declared.mended.Answer.{Answer}
 use Rattle.answer.specs.Answer.{described}
@@ -175,7 +175,7 @@ demand-1-write s xs es out v out′ p =
 pub demand-1-mend-record : (bs xs es : List ℕ) (v : Answer) (xs′ es′ : List ℕ) → MendsRecord bs xs es v xs′ es′
     → (ys : List ℕ)
     × (RecordJudged bs (length xs) (length es) (v .number) ys
-    × ((v .number ≡ 0 → (v ≡ mendedAnswer bs) × ((xs′ ≡ over xs 0 ys) × (es′ ≡ over es 0 (lostOf bs))))
+    × ((v .number ≡ 0 → (v ≡ mendedAnswer bs) × ((xs′ ≡ over xs 0 ys) × (es′ ≡ over es 0 (lostListed bs))))
     × ((v .number ≡ 0 → ⊥) → (v ≡ refusedAnswer (v .number)) × ((xs′ ≡ xs) × (es′ ≡ es)))))
 demand-1-mend-record bs xs es v xs′ es′ p = (
   p .bytes,
@@ -199,7 +199,7 @@ demand-1-mend-record bs xs es v xs′ es′ p = (
 
 -- What such a record describes is what is laid out: the shape, the lost positions, and the bytes of every surviving column.
 pub demand-1-described : (bs : List ℕ) (w : LaidOut bs)
-    → (recordShape bs ≡ w .shape) × ((lostOf bs ≡ w .lost) × Agree (w .shape) (w .lost) (w .stripe) (described bs))
+    → (shapeRead bs ≡ w .shape) × ((lostListed bs ≡ w .lost) × Agree (w .shape) (w .lost) (w .stripe) (described bs))
 demand-1-described bs w = (laid-shape bs w, (laid-lost bs w, laid-described bs w))
 
 -- The program's text: with room for 140,000 bytes the text of the record's outcome stands at the front, the answer is its length, and what follows
@@ -376,7 +376,7 @@ demand-2-record-read bs xs ls v xs′ ls′ p z long w = (
     none : refusal ≡ 0
     none = sym (got-number bs xs ls v xs′ ls′ p) ∙ z
 
-    got : v ≡ record { number = 0; shape = recordShape bs; lost = countOf bs }
+    got : v ≡ record { number = 0; shape = shapeRead bs; lost = countOf bs }
     got = p .0 ∙ done refusal _ _ none
 
     lawful : stripeRefusal (w .shape) ≡ 0

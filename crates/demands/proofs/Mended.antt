@@ -18,7 +18,7 @@ use Rattle.lost.proofs.Listed.{ascending-nil, ascending-next, too-many, list-pa
 use Rattle.mending.specs.Mend.{mendRefusal, Restored, Mended}
 use Rattle.writing.specs.Writing.{LaidOut}
 use Rattle.number.specs.Number.{nextOf}
-use Rattle.record.specs.Reading.{shapeOf, firstOf, countNumber, countOf, lostOf, columnsStart, columnsFilled, readRefusal, stripeRefusal}
+use Rattle.record.specs.Reading.{shapeRead, firstOf, countNumber, countOf, lostListed, columnsStart, columnsFilled, readRefusal, stripeRefusal}
 use Rattle.record.proofs.Accepted.{Accepted}
 use Rattle.record.proofs.Listing.{positions-length}
 use Rattle.record.proofs.Exactly.{columns-enough}
@@ -41,51 +41,51 @@ module _ (bs : List ℕ) (a b : ℕ) (z : readRefusal bs a b ≡ 0) where
   says : Accepted bs
   says = read-says bs a b z
 
-  described-long : length (described bs) ≡ stripeLength (shapeOf bs)
+  described-long : length (described bs) ≡ stripeLength (shapeRead bs)
   described-long =
-      length-take-le (stripeLength (shapeOf bs)) (columnsFilled bs blankStripe)
+      length-take-le (stripeLength (shapeRead bs)) (columnsFilled bs blankStripe)
       (omega (
         arith,
-        restored-length (shapeOf bs .l) 0 (columns (shapeOf bs)) (lostOf bs) (drop (columnsStart bs) bs) blankStripe
+        restored-length (shapeRead bs .l) 0 (columns (shapeRead bs)) (lostListed bs) (drop (columnsStart bs) bs) blankStripe
             (omega (arith, says .stripe-short, blank-long)) (omega (arith, columns-enough bs says)),
         says .stripe-short,
         blank-long,
       ))
 
-  even : length (pairs (lostOf bs)) % 2 ≡ 0
-  even = omega (arith, pairs-length (lostOf bs))
+  even : length (pairs (lostListed bs)) % 2 ≡ 0
+  even = omega (arith, pairs-length (lostListed bs))
 
-  half : length (pairs (lostOf bs)) / 2 ≡ countOf bs
-  half = omega (arith, pairs-length (lostOf bs), positions-length bs (countOf bs) (nextOf (countNumber bs)))
+  half : length (pairs (lostListed bs)) / 2 ≡ countOf bs
+  half = omega (arith, pairs-length (lostListed bs), positions-length bs (countOf bs) (nextOf (countNumber bs)))
 
-  ascend : ascending 0 (columns (shapeOf bs)) (positions (pairs (lostOf bs))) ≡ true
-  ascend = ap (ascending 0 (columns (shapeOf bs))) (positions-pairs (lostOf bs)) ∙ ascending-so 0 (columns (shapeOf bs)) (lostOf bs) (says .ascending)
+  ascend : ascending 0 (columns (shapeRead bs)) (positions (pairs (lostListed bs))) ≡ true
+  ascend = ap (ascending 0 (columns (shapeRead bs))) (positions-pairs (lostListed bs)) ∙ ascending-so 0 (columns (shapeRead bs)) (lostListed bs) (says .ascending)
 
   -- what mending refuses of it is the list's length
-  list-alone : mendRefusal (shapeOf bs) (length (described bs)) (pairs (lostOf bs)) ≡ listRefusal (columns (shapeOf bs)) (shapeOf bs .r) (pairs (lostOf bs))
+  list-alone : mendRefusal (shapeRead bs) (length (described bs)) (pairs (lostListed bs)) ≡ listRefusal (columns (shapeRead bs)) (shapeRead bs .r) (pairs (lostListed bs))
   unfolding mendRefusal
   list-alone = simp (eq-eqb _ _ (read-shaped bs a b z), eq-eqb _ _ described-long)
 
-  many-lost : shapeOf bs .r < countOf bs → mendRefusal (shapeOf bs) (length (described bs)) (pairs (lostOf bs)) ≡ 7
-  many-lost h = list-alone ∙ too-many (columns (shapeOf bs)) (shapeOf bs .r) (pairs (lostOf bs)) even ascend (omega (arith, half))
+  many-lost : shapeRead bs .r < countOf bs → mendRefusal (shapeRead bs) (length (described bs)) (pairs (lostListed bs)) ≡ 7
+  many-lost h = list-alone ∙ too-many (columns (shapeRead bs)) (shapeRead bs .r) (pairs (lostListed bs)) even ascend (omega (arith, half))
 
-  few-lost : countOf bs ≤ shapeOf bs .r → mendRefusal (shapeOf bs) (length (described bs)) (pairs (lostOf bs)) ≡ 0
-  few-lost h = list-alone ∙ list-passes (columns (shapeOf bs)) (shapeOf bs .r) (pairs (lostOf bs)) even ascend (omega (arith, half))
+  few-lost : countOf bs ≤ shapeRead bs .r → mendRefusal (shapeRead bs) (length (described bs)) (pairs (lostListed bs)) ≡ 0
+  few-lost h = list-alone ∙ list-passes (columns (shapeRead bs)) (shapeRead bs .r) (pairs (lostListed bs)) even ascend (omega (arith, half))
 
-  module _ (n : ℕ) (ys : List ℕ) (m : Mended (shapeOf bs) (pairs (lostOf bs)) (described bs) n ys) where
-    mended-many : shapeOf bs .r < countOf bs → n ≡ 7
+  module _ (n : ℕ) (ys : List ℕ) (m : Mended (shapeRead bs) (pairs (lostListed bs)) (described bs) n ys) where
+    mended-many : shapeRead bs .r < countOf bs → n ≡ 7
     mended-many h = let e = many-lost h in m .refused (λ o. absurd (omega (arith, e))) .0 ∙ e
 
     abbrev Told : List ℕ → Type 0
     Told es =
-        ((n ≡ 0) × Restored (shapeOf bs) es (described bs) ys) ⊎ ((n ≡ 8) × ((zs : List ℕ) → Restored (shapeOf bs) es (described bs) zs → ⊥))
+        ((n ≡ 0) × Restored (shapeRead bs) es (described bs) ys) ⊎ ((n ≡ 8) × ((zs : List ℕ) → Restored (shapeRead bs) es (described bs) zs → ⊥))
 
-    mended-few : countOf bs ≤ shapeOf bs .r → Told (lostOf bs)
-    mended-few h = subst Told (positions-pairs (lostOf bs)) (go (m .judged (few-lost h)))
+    mended-few : countOf bs ≤ shapeRead bs .r → Told (lostListed bs)
+    mended-few h = subst Told (positions-pairs (lostListed bs)) (go (m .judged (few-lost h)))
       where
-        go : ((n ≡ 0) × Restored (shapeOf bs) (positions (pairs (lostOf bs))) (described bs) ys)
-            ⊎ ((n ≡ 8) × ((ys ≡ described bs) × ((zs : List ℕ) → Restored (shapeOf bs) (positions (pairs (lostOf bs))) (described bs) zs → ⊥)))
-            → Told (positions (pairs (lostOf bs)))
+        go : ((n ≡ 0) × Restored (shapeRead bs) (positions (pairs (lostListed bs))) (described bs) ys)
+            ⊎ ((n ≡ 8) × ((ys ≡ described bs) × ((zs : List ℕ) → Restored (shapeRead bs) (positions (pairs (lostListed bs))) (described bs) zs → ⊥)))
+            → Told (positions (pairs (lostListed bs)))
         go (inl o) = inl o
         go (inr o) = inr (o .0, o .1 .1)
 
@@ -107,11 +107,11 @@ module _ (bs : List ℕ) (w : LaidOut bs) where
   lawful : stripeRefusal (w .shape) ≡ 0
   lawful = sym (stripe-lawful (w .shape) (w .allowed) (w .short))
 
-  pub laid-shape : shapeOf bs ≡ w .shape
-  laid-shape = ap (λ (b : List ℕ). shapeOf b) (w .bytes) ∙ sym (shape-back (w .shape) (w .lost) (w .stripe) lawful (w .ascending) (w .exact))
+  pub laid-shape : shapeRead bs ≡ w .shape
+  laid-shape = ap (λ (b : List ℕ). shapeRead b) (w .bytes) ∙ sym (shape-back (w .shape) (w .lost) (w .stripe) lawful (w .ascending) (w .exact))
 
-  pub laid-lost : lostOf bs ≡ w .lost
-  laid-lost = ap (λ (b : List ℕ). lostOf b) (w .bytes) ∙ lost-back (w .shape) (w .lost) (w .stripe) lawful (w .ascending) (w .exact)
+  pub laid-lost : lostListed bs ≡ w .lost
+  laid-lost = ap (λ (b : List ℕ). lostListed b) (w .bytes) ∙ lost-back (w .shape) (w .lost) (w .stripe) lawful (w .ascending) (w .exact)
 
   pub laid-described : Agree (w .shape) (w .lost) (w .stripe) (described bs)
   laid-described c p hc hp k =

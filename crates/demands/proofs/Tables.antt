@@ -15,7 +15,7 @@ use Rattle.plan.specs.Plan.{stripesAllowed, newAllowed, foldRefusal, columnsRea
 use Rattle.fold.specs.Fold.{foldVerdict}
 use Rattle.number.specs.Number.{numberRefusal, nextOf}
 use Rattle.record.specs.Layout.{recordOf}
-use Rattle.record.specs.Reading.{shapeOf, firstOf, unless, firstNumber, secondNumber, thirdNumber, fourthNumber, countNumber, countOf, columnsStart, stripeRefusal, headRefusal, positionsRefusal, columnsRefusal, contentRefusal, readRefusal}
+use Rattle.record.specs.Reading.{shapeRead, firstOf, unless, firstNumber, secondNumber, thirdNumber, fourthNumber, countNumber, countOf, columnsStart, stripeRefusal, headRefusal, positionsRefusal, columnsRefusal, contentRefusal, readRefusal}
 use Rattle.writing.specs.Writing.{ascends, writeRefusal}
 use Rattle.shelf.specs.Shelf.{spansRefusal}
 use Rattle.demands.specs.Calls.{numbersAllowed, encodeTable, mendTable, planTable, foldTable, spansTable, writeTable, readTable}
@@ -151,17 +151,17 @@ module _ (bs : List ℕ) where
   abbrev rest : List ℕ
   rest =
       numberRefusal (countNumber bs)
-      ∷ unless (leb (countOf bs) (columns (shapeOf bs))) 6
-      ∷ positionsRefusal bs (columns (shapeOf bs)) (countOf bs) 0 (nextOf (countNumber bs))
-      ∷ columnsRefusal (length bs - columnsStart bs) ((columns (shapeOf bs) - countOf bs) * shapeOf bs .l)
+      ∷ unless (leb (countOf bs) (columns (shapeRead bs))) 6
+      ∷ positionsRefusal bs (columns (shapeRead bs)) (countOf bs) 0 (nextOf (countNumber bs))
+      ∷ columnsRefusal (length bs - columnsStart bs) ((columns (shapeRead bs) - countOf bs) * shapeRead bs .l)
       ∷ []
 
-  content-table : contentRefusal bs ≡ firstOf (numbers ++ (shapeTable (shapeOf bs) ++ (unless (leb (stripeLength (shapeOf bs)) 65536) 5 ∷ rest)))
+  content-table : contentRefusal bs ≡ firstOf (numbers ++ (shapeTable (shapeRead bs) ++ (unless (leb (stripeLength (shapeRead bs)) 65536) 5 ∷ rest)))
   unfolding contentRefusal headRefusal
   content-table =
-      nested (numbers ++ (stripeRefusal (shapeOf bs) ∷ [])) (firstOf rest ∷ [])
-      ∙ alike (numbers ++ (stripeRefusal (shapeOf bs) ∷ [])) (firstOf rest ∷ []) rest (nested rest [])
-      ∙ alike numbers (stripeRefusal (shapeOf bs) ∷ rest) _ (stripe-then (shapeOf bs) rest)
+      nested (numbers ++ (stripeRefusal (shapeRead bs) ∷ [])) (firstOf rest ∷ [])
+      ∙ alike (numbers ++ (stripeRefusal (shapeRead bs) ∷ [])) (firstOf rest ∷ []) rest (nested rest [])
+      ∙ alike numbers (stripeRefusal (shapeRead bs) ∷ rest) _ (stripe-then (shapeRead bs) rest)
 
   pub read-table : (a b : ℕ) → readRefusal bs a b ≡ firstOf (readTable bs a b)
   unfolding readRefusal

@@ -20,7 +20,7 @@ use Rattle.record.specs.declared.read.Got.{Got}
 use Rattle.writing.specs.declared.Written.{Written}
 use Rattle.number.specs.Number.{numberRefusal, nextOf}
 use Rattle.record.specs.Layout.{recordOf}
-use Rattle.record.specs.Reading.{shapeOf as recordShape, firstOf, unless, firstNumber, secondNumber, thirdNumber, fourthNumber, countNumber, countOf, lostOf, columnsStart, positionsRefusal, columnsRefusal, gotOf, stripeRead, lostRead}
+use Rattle.record.specs.Reading.{shapeRead, firstOf, unless, firstNumber, secondNumber, thirdNumber, fourthNumber, countNumber, countOf, lostListed, columnsStart, positionsRefusal, columnsRefusal, gotOf, stripeRead, lostRead}
 use Rattle.writing.specs.Writing.{ascends, writtenOf, outWritten}
 use Rattle.answer.specs.declared.mended.Answer.{Answer}
 use Rattle.answer.specs.Answer.{described, Answered, Printed}
@@ -141,13 +141,13 @@ readTable bs a b =
     ∷ numberRefusal (secondNumber bs)
     ∷ numberRefusal (thirdNumber bs)
     ∷ numberRefusal (fourthNumber bs)
-    ∷ unless (numbersAllowed (recordShape bs)) 1
-    ∷ unless (lengthAllowed (recordShape bs .t) (recordShape bs .l)) 2
-    ∷ unless (leb (stripeLength (recordShape bs)) 65536) 5
+    ∷ unless (numbersAllowed (shapeRead bs)) 1
+    ∷ unless (lengthAllowed (shapeRead bs .t) (shapeRead bs .l)) 2
+    ∷ unless (leb (stripeLength (shapeRead bs)) 65536) 5
     ∷ numberRefusal (countNumber bs)
-    ∷ unless (leb (countOf bs) (columns (recordShape bs))) 6
-    ∷ positionsRefusal bs (columns (recordShape bs)) (countOf bs) 0 (nextOf (countNumber bs))
-    ∷ columnsRefusal (length bs - columnsStart bs) ((columns (recordShape bs) - countOf bs) * recordShape bs .l)
+    ∷ unless (leb (countOf bs) (columns (shapeRead bs))) 6
+    ∷ positionsRefusal bs (columns (shapeRead bs)) (countOf bs) 0 (nextOf (countNumber bs))
+    ∷ columnsRefusal (length bs - columnsStart bs) ((columns (shapeRead bs) - countOf bs) * shapeRead bs .l)
     ∷ []
 
 -- ---- a record mended
@@ -156,14 +156,14 @@ readTable bs a b =
 -- table; then 7 for more than r lost columns; then 8 where no codeword agrees with every survivor, else 0 and ys is such a codeword
 pub record RecordJudged (bs : List ℕ) (a b n : ℕ) (ys : List ℕ) : Type 0 where
   pub unread : (firstOf (readTable bs a b) ≡ 0 → ⊥) → n ≡ firstOf (readTable bs a b)
-  pub many : firstOf (readTable bs a b) ≡ 0 → recordShape bs .r < countOf bs → n ≡ 7
-  pub few : firstOf (readTable bs a b) ≡ 0 → countOf bs ≤ recordShape bs .r
-      → ((n ≡ 0) × Restored (recordShape bs) (lostOf bs) (described bs) ys)
-      ⊎ ((n ≡ 8) × ((zs : List ℕ) → Restored (recordShape bs) (lostOf bs) (described bs) zs → ⊥))
+  pub many : firstOf (readTable bs a b) ≡ 0 → shapeRead bs .r < countOf bs → n ≡ 7
+  pub few : firstOf (readTable bs a b) ≡ 0 → countOf bs ≤ shapeRead bs .r
+      → ((n ≡ 0) × Restored (shapeRead bs) (lostListed bs) (described bs) ys)
+      ⊎ ((n ≡ 8) × ((zs : List ℕ) → Restored (shapeRead bs) (lostListed bs) (described bs) zs → ⊥))
 
 -- the answer with the number 0: the shape and the number of lost columns
 abbrev pub mendedAnswer : List ℕ → Answer
-mendedAnswer bs = record { number = 0; shape = recordShape bs; lost = countOf bs }
+mendedAnswer bs = record { number = 0; shape = shapeRead bs; lost = countOf bs }
 
 -- the answer with a refusal: zeros
 abbrev pub refusedAnswer : ℕ → Answer
@@ -171,7 +171,7 @@ refusedAnswer n = record { number = n; shape = noShape; lost = 0 }
 
 -- the text that is printed with the number n: the mended stripe ys, or the refusal alone
 abbrev pub textWith : List ℕ → ℕ → List ℕ → List ℕ
-textWith bs n ys = cond (eqb n 0) (stripeText (recordShape bs) (lostOf bs) ys) (refusalText n)
+textWith bs n ys = cond (eqb n 0) (stripeText (shapeRead bs) (lostListed bs) ys) (refusalText n)
 
 -- ---- what a plan names
 

@@ -27,7 +27,7 @@ use Rattle.plan.proofs.Counted.{runs-sum}
 use Rattle.fold.specs.declared.shares.Share.{Share}
 use Rattle.fold.specs.declared.shares.Share.the-variants.{Read, Row, Both}
 use Rattle.fold.specs.Fold.{runBytes, partBytes, readParity, readRow, runShare, share}
-use Rattle.fold.specs.Shares.{ReadsParity, IsRows, shareAt, Within, kept, Summed, shareOf, taken}
+use Rattle.fold.specs.Shares.{ReadsParity, IsRows, shareAt, Within, stays, Summed, shareOf, taken}
 
 -- a fold that reads parity is of kind A or B
 pub reads-kinds : (s : Shape) (f : ℕ) → ReadsParity s f → IsA s f ⊎ IsB s f
@@ -211,14 +211,14 @@ module _ (s : Shape) (f : ℕ) (reads : ReadsParity s f) (first : Bool) (xs rs y
 
   -- what is taken in at place e of run i
   taken-at : (i e : ℕ) → i < f * R → e < Q
-      → getD (taken s f first xs ys) (i * Q + e) 0 ≡ kept first (i / R * s .k) (getD ys (i * Q + e) 0) ⊕ shareAt (shareOf s (i / R) (i % R)) xs rs e
+      → getD (taken s f first xs ys) (i * Q + e) 0 ≡ stays first (i / R * s .k) (getD ys (i * Q + e) 0) ⊕ shareAt (shareOf s (i / R) (i % R)) xs rs e
   unfolding taken
   taken-at i e h he =
       tabulate-at (f * s .l) _ (i * Q + e) (omega (arith, run-in i (f * s .l) h refl))
-      ∙ ap₂ (λ (j p : ℕ). kept first (j * s .k) (getD ys (i * Q + e) 0) ⊕ share (kindOf s f) s xs j p)
+      ∙ ap₂ (λ (j p : ℕ). stays first (j * s .k) (getD ys (i * Q + e) 0) ⊕ share (kindOf s f) s xs j p)
       (ap (λ (x : ℕ). x / s .l) (run-place i e) ∙ place-column (i / R) inside)
       (ap (λ (x : ℕ). x % s .l) (run-place i e) ∙ place-byte (i / R) inside)
-      ∙ ap (λ (v : ℕ). kept first (i / R * s .k) (getD ys (i * Q + e) 0) ⊕ v)
+      ∙ ap (λ (v : ℕ). stays first (i / R * s .k) (getD ys (i * Q + e) 0) ⊕ v)
       (sym (share-same s f reads (i / R) (i % R) e xs rs (place-column-lt i f R h) (place-byte-lt i f R h) he rows))
     where
       inside : i % R * Q + e < s .l
@@ -249,7 +249,7 @@ module _ (s : Shape) (f : ℕ) (reads : ReadsParity s f) (first : Bool) (xs rs y
       inside : (e : ℕ) → e < Q → getD (putMid (i * Q) (i * Q + Q - i * Q) zs ws) (i * Q + e) 0 ≡ getD (taken s f first xs ys) (i * Q + e) 0
       inside e l =
           back-inside zs ws (i * Q) Q ws-long room e l ∙ v .at e (omega (arith, part-long))
-          ∙ ap (λ (x : ℕ). kept first (i / R * s .k) x ⊕ shareAt (shareOf s (i / R) (i % R)) xs rs e) (part-at zs (i * Q) Q e l ∙ w .above (i * Q + e) (omega arith))
+          ∙ ap (λ (x : ℕ). stays first (i / R * s .k) x ⊕ shareAt (shareOf s (i / R) (i % R)) xs rs e) (part-at zs (i * Q) Q e l ∙ w .above (i * Q + e) (omega arith))
           ∙ sym (taken-at i e h l)
 
       go : (x : ℕ) → x < (i + 1) * Q → (x < i * Q) ⊎ (i * Q ≤ x) → getD (putMid (i * Q) (i * Q + Q - i * Q) zs ws) x 0 ≡ getD (taken s f first xs ys) x 0

@@ -12,7 +12,7 @@ use Rattle.lanes.proofs.Onto.{onto-length, onto-at}
 use Rattle.lanes.proofs.Parts.{part-length, part-at}
 use Rattle.fold.specs.declared.shares.Share.{Share}
 use Rattle.fold.specs.declared.shares.Share.the-variants.{Read, Row, Both}
-use Rattle.fold.specs.Shares.{shareAt, Within, kept, Summed}
+use Rattle.fold.specs.Shares.{shareAt, Within, stays, Summed}
 
 onto-is : (f g : ℕ → ℕ → ℕ) (xs ys : List ℕ) → ((x y : ℕ) → f x y ≡ g x y) → onto f xs ys ≡ onto g xs ys
 unfolding onto
@@ -20,29 +20,29 @@ onto-is f g [] ys h = refl
 onto-is f g (x ∷ xs) [] h = refl
 onto-is f g (x ∷ xs) (y ∷ ys) h = ap₂ _∷_ (h x y) (onto-is f g xs ys h)
 
-pub kept-none : (first : Bool) (w : ℕ) (xs ys : List ℕ) → first ≡ true → onto (λ (x y : ℕ). y) xs ys ≡ onto (λ (x y : ℕ). kept first w x ⊕ y) xs ys
-unfolding kept
-kept-none first w xs ys e =
+pub stays-none : (first : Bool) (w : ℕ) (xs ys : List ℕ) → first ≡ true → onto (λ (x y : ℕ). y) xs ys ≡ onto (λ (x y : ℕ). stays first w x ⊕ y) xs ys
+unfolding stays
+stays-none first w xs ys e =
     onto-is _ _ xs ys (λ x y. sym (ap (λ (b : Bool). cond b 0 (gpow w ⊗ x) ⊕ y) e ∙ zero-add y))
 
-pub kept-weighted : (first : Bool) (w : ℕ) (xs ys : List ℕ) → first ≡ false
-    → onto (λ (x y : ℕ). gpow w ⊗ x ⊕ y) xs ys ≡ onto (λ (x y : ℕ). kept first w x ⊕ y) xs ys
-unfolding kept
-kept-weighted first w xs ys e = onto-is _ _ xs ys (λ x y. sym (ap (λ (b : Bool). cond b 0 (gpow w ⊗ x) ⊕ y) e))
+pub stays-weighted : (first : Bool) (w : ℕ) (xs ys : List ℕ) → first ≡ false
+    → onto (λ (x y : ℕ). gpow w ⊗ x ⊕ y) xs ys ≡ onto (λ (x y : ℕ). stays first w x ⊕ y) xs ys
+unfolding stays
+stays-weighted first w xs ys e = onto-is _ _ xs ys (λ x y. sym (ap (λ (b : Bool). cond b 0 (gpow w ⊗ x) ⊕ y) e))
 
 -- ---- shares
 
 -- one step: what stays of the run, and the n bytes from a on
 module _ (first : Bool) (w : ℕ) (xs d ys : List ℕ) (a n : ℕ) (long : length xs ≡ n) (fits : a + n ≤ length d)
-    (is : ys ≡ onto (λ (x y : ℕ). kept first w x ⊕ y) xs (take (a + n - a) (drop a d))) where
+    (is : ys ≡ onto (λ (x y : ℕ). stays first w x ⊕ y) xs (take (a + n - a) (drop a d))) where
   step-long : length ys ≡ length xs
-  step-long = ap length is ∙ onto-length (λ (x y : ℕ). kept first w x ⊕ y) xs _
+  step-long = ap length is ∙ onto-length (λ (x y : ℕ). stays first w x ⊕ y) xs _
 
-  step-at : (e : ℕ) → e < length xs → getD ys e 0 ≡ kept first w (getD xs e 0) ⊕ getD d (a + e) 0
+  step-at : (e : ℕ) → e < length xs → getD ys e 0 ≡ stays first w (getD xs e 0) ⊕ getD d (a + e) 0
   step-at e h =
       ap (λ (l : List ℕ). getD l e 0) is
-      ∙ onto-at (λ (x y : ℕ). kept first w x ⊕ y) xs (take (a + n - a) (drop a d)) e h (omega (arith, part-length d a n fits))
-      ∙ ap (λ (v : ℕ). kept first w (getD xs e 0) ⊕ v) (part-at d a n e (omega arith))
+      ∙ onto-at (λ (x y : ℕ). stays first w x ⊕ y) xs (take (a + n - a) (drop a d)) e h (omega (arith, part-length d a n fits))
+      ∙ ap (λ (v : ℕ). stays first w (getD xs e 0) ⊕ v) (part-at d a n e (omega arith))
 
 module _ (σ : Share) (d rs xs : List ℕ) (within : Within σ (length xs) (length d) (length rs)) where
   pub read-in : (at : ℕ) → σ ≡ Read at → at + length xs ≤ length d
@@ -59,21 +59,21 @@ module _ (σ : Share) (d rs xs : List ℕ) (within : Within σ (length xs) (leng
 
   module _ (first : Bool) (w : ℕ) where
     pub read-done : (at : ℕ) (ys : List ℕ) → σ ≡ Read at
-        → ys ≡ onto (λ (x y : ℕ). kept first w x ⊕ y) xs (take (at + length xs - at) (drop at d)) → Summed first w (shareAt σ d rs) xs ys
+        → ys ≡ onto (λ (x y : ℕ). stays first w x ⊕ y) xs (take (at + length xs - at) (drop at d)) → Summed first w (shareAt σ d rs) xs ys
     unfolding shareAt
     read-done at ys e is =
         subst (λ (τ : Share). Summed first w (shareAt τ d rs) xs ys) (sym e)
         record { long = step-long first w xs d ys at (length xs) refl (read-in at e) is; at = step-at first w xs d ys at (length xs) refl (read-in at e) is }
 
     pub row-done : (at : ℕ) (ys : List ℕ) → σ ≡ Row at
-        → ys ≡ onto (λ (x y : ℕ). kept first w x ⊕ y) xs (take (at + length xs - at) (drop at rs)) → Summed first w (shareAt σ d rs) xs ys
+        → ys ≡ onto (λ (x y : ℕ). stays first w x ⊕ y) xs (take (at + length xs - at) (drop at rs)) → Summed first w (shareAt σ d rs) xs ys
     unfolding shareAt
     row-done at ys e is =
         subst (λ (τ : Share). Summed first w (shareAt τ d rs) xs ys) (sym e)
         record { long = step-long first w xs rs ys at (length xs) refl (row-in at e) is; at = step-at first w xs rs ys at (length xs) refl (row-in at e) is }
 
     pub both-done : (at from : ℕ) (ys zs : List ℕ) → σ ≡ Both at from
-        → ys ≡ onto (λ (x y : ℕ). kept first w x ⊕ y) xs (take (at + length xs - at) (drop at d))
+        → ys ≡ onto (λ (x y : ℕ). stays first w x ⊕ y) xs (take (at + length xs - at) (drop at d))
         → zs ≡ onto (λ (x y : ℕ). x ⊕ y) ys (take (from + length xs - from) (drop from rs)) → Summed first w (shareAt σ d rs) xs zs
     unfolding shareAt
     both-done at from ys zs e is js =

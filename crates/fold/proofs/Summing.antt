@@ -27,7 +27,7 @@ use Rattle.plan.specs.Plan.{foldRefusal, kindOf, bytesEach, bytesRead}
 use Rattle.plan.proofs.Foldable.{foldable}
 use Rattle.plan.proofs.Costs.{bytes-read}
 use Rattle.fold.specs.Fold.{readParity, readRow, runShare, share, foldByte, foldStripes, parts, foldOf}
-use Rattle.fold.specs.Shares.{kept, taken}
+use Rattle.fold.specs.Shares.{stays, taken}
 
 -- ---- a share is a byte
 
@@ -47,7 +47,7 @@ share-lt C s xs j p h = row-lt j _
 module _ (s : Shape) (f : ℕ) (xs : List ℕ) (bytes : Bytes xs) where
   by-places : (first : Bool) (ys : List ℕ) (xss : List (List ℕ))
       → ((i : ℕ) → i < f * s .l
-      → kept first (i / s .l * s .k) (getD ys i 0) ⊕ share (kindOf s f) s xs (i / s .l) (i % s .l) ≡ foldByte (kindOf s f) s (xs ∷ xss) (i / s .l) (i % s .l))
+      → stays first (i / s .l * s .k) (getD ys i 0) ⊕ share (kindOf s f) s xs (i / s .l) (i % s .l) ≡ foldByte (kindOf s f) s (xs ∷ xss) (i / s .l) (i % s .l))
       → taken s f first xs ys ≡ foldStripes s f (xs ∷ xss)
   unfolding taken foldStripes
   by-places first ys xss h =
@@ -67,7 +67,7 @@ module _ (s : Shape) (f : ℕ) (xs : List ℕ) (bytes : Bytes xs) where
 
   -- the first stripe that is taken in
   pub taken-first : (ys : List ℕ) → taken s f true xs ys ≡ foldStripes s f (xs ∷ [])
-  unfolding kept
+  unfolding stays
   taken-first ys =
       by-places true ys []
       (λ i h.
@@ -78,7 +78,7 @@ module _ (s : Shape) (f : ℕ) (xs : List ℕ) (bytes : Bytes xs) where
 
   -- a stripe before those that were taken in
   pub taken-next : (xss : List (List ℕ)) → taken s f false xs (foldStripes s f xss) ≡ foldStripes s f (xs ∷ xss)
-  unfolding kept foldStripes
+  unfolding stays foldStripes
   taken-next xss =
       by-places false (foldStripes s f xss) xss
       (λ i h.

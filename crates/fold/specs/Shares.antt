@@ -42,13 +42,13 @@ Within (Row at) q m n = at + q ≤ n
 Within (Both at from) q m n = (at + q ≤ m) × (from + q ≤ n)
 
 -- what stays of byte x as a stripe is taken in: nothing if it is the first to be, else x times g^w
-unfoldable pub kept : Bool → ℕ → ℕ → ℕ
-kept first w x = cond first 0 (gpow w ⊗ x)
+unfoldable pub stays : Bool → ℕ → ℕ → ℕ
+stays first w x = cond first 0 (gpow w ⊗ x)
 
 -- ys is what stays of xs, and v e, at each place e
 pub record Summed (first : Bool) (w : ℕ) (v : ℕ → ℕ) (xs ys : List ℕ) : Type 0 where
   pub long : length ys ≡ length xs
-  pub at : (e : ℕ) → e < length xs → getD ys e 0 ≡ kept first w (getD xs e 0) ⊕ v e
+  pub at : (e : ℕ) → e < length xs → getD ys e 0 ≡ stays first w (getD xs e 0) ⊕ v e
 
 -- what a stripe adds to run b of wide row j
 unfoldable pub shareOf : Shape → ℕ → ℕ → Share
@@ -62,4 +62,4 @@ shareOf s j b =
 -- the wide parity ys once a stripe is taken in, from the bytes read of it
 unfoldable pub taken : Shape → ℕ → Bool → List ℕ → List ℕ → List ℕ
 taken s f first xs ys =
-    tabulate (f * s .l) (λ i. kept first (i / s .l * s .k) (getD ys i 0) ⊕ share (kindOf s f) s xs (i / s .l) (i % s .l))
+    tabulate (f * s .l) (λ i. stays first (i / s .l * s .k) (getD ys i 0) ⊕ share (kindOf s f) s xs (i / s .l) (i % s .l))

@@ -5,7 +5,7 @@ ghost use Prim.Native.Nat.{ℕ, _+_, _-_, _≤_};
 ghost use lib.ListN.{length, take, drop};
 ghost use Rattle.field.specs.Field.{_⊕_};
 ghost use Rattle.lanes.specs.Lanes.{onto};
-ghost use Rattle.fold.specs.Shares.{shareAt, Within, kept, Summed};
+ghost use Rattle.fold.specs.Shares.{shareAt, Within, stays, Summed};
 
 // What a stripe adds to a run: bytes read of it, from an offset on; bytes of its rows, from an offset on; or both.
 pub enum Share {
@@ -17,7 +17,7 @@ pub enum Share {
 // What stays of the run, nothing or g^w times it, and at each place the byte of the second from `at` on.
 fn take_bytes(acc: &mut [u8], first: bool, w: usize, d: &[u8], at: usize)
     requires { ⌜ at + length (now acc) ≤ length (now d) ⌝ }
-    ensures { λ _. ⌜ now (acc .exit) ≡ onto (λ (x y : ℕ). kept first w x ⊕ y) (now (acc .entry)) (take (at + length (now (acc .entry)) - at) (drop at (now (d .entry)))) ⌝ }
+    ensures { λ _. ⌜ now (acc .exit) ≡ onto (λ (x y : ℕ). stays first w x ⊕ y) (now (acc .entry)) (take (at + length (now (acc .entry)) - at) (drop at (now (d .entry)))) ⌝ }
 {
     let end = at + acc.len();
     let part = &d[at..end];

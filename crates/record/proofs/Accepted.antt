@@ -20,7 +20,7 @@ use Rattle.number.specs.declared.Number.the-variants.{Value, Cut, Malformed}
 use Rattle.record.specs.declared.read.Verdict.the-variants.{Lawful, Refused}
 use Rattle.number.specs.Number.{numberAt, numberRefusal, groupsAt, valueOf, nextOf}
 use Rattle.record.specs.Layout.{kept}
-use Rattle.record.specs.Reading.{unless, fourthNumber, countNumber, shapeOf, countOf, lostOf, columnsStart, headRefusal, positionRefusal, positionsRefusal, positionsAt, afterPositions, columnsRefusal, restRefusal, contentRefusal, verdictOf}
+use Rattle.record.specs.Reading.{unless, fourthNumber, countNumber, shapeRead, countOf, lostListed, columnsStart, headRefusal, positionRefusal, positionsRefusal, positionsAt, afterPositions, columnsRefusal, restRefusal, contentRefusal, verdictOf}
 use Rattle.number.proofs.Groups.{View, view, ended, last, more, onto-value}
 use Rattle.number.proofs.Written.{limited-value}
 use Rattle.record.proofs.Refusals.{first-zero, head-described, described}
@@ -123,14 +123,14 @@ kept-lost n (suc m) a (x ∷ es) h e = go (eq-or-lt-of-le (h .0)) (kept-lost n m
 
 pub record Accepted (s : List ℕ) : Type 0 where
   pub head-read : headRefusal s ≡ 0
-  pub shape-allowed : Allowed (shapeOf s)
-  pub stripe-short : stripeLength (shapeOf s) ≤ 65536
+  pub shape-allowed : Allowed (shapeRead s)
+  pub stripe-short : stripeLength (shapeRead s) ≤ 65536
   pub count-read : numberRefusal (countNumber s) ≡ 0
-  pub few : countOf s ≤ columns (shapeOf s)
-  pub positions-read : positionsRefusal s (columns (shapeOf s)) (countOf s) 0 (nextOf (countNumber s)) ≡ 0
-  pub ascending : Ascending 0 (columns (shapeOf s)) (lostOf s)
+  pub few : countOf s ≤ columns (shapeRead s)
+  pub positions-read : positionsRefusal s (columns (shapeRead s)) (countOf s) 0 (nextOf (countNumber s)) ≡ 0
+  pub ascending : Ascending 0 (columns (shapeRead s)) (lostListed s)
   pub within : columnsStart s ≤ length s
-  pub exact : length s - columnsStart s ≡ (columns (shapeOf s) - countOf s) * shapeOf s .l
+  pub exact : length s - columnsStart s ≡ (columns (shapeRead s) - countOf s) * shapeRead s .l
 
 columns-zero : (have want : ℕ) → columnsRefusal have want ≡ 0 → have ≡ want
 columns-zero have want e = go (ltb have want) refl e
@@ -143,12 +143,12 @@ pub accepted : (s : List ℕ) → contentRefusal s ≡ 0 → Accepted s
 unfolding contentRefusal
 accepted s e =
     let a = first-zero (headRefusal s) _ e in
-    let r = first-zero (restRefusal s (shapeOf s) (countNumber s)) [] (a .1) .0 in
-    let d = described (shapeOf s) (head-described s (a .0)) in
+    let r = first-zero (restRefusal s (shapeRead s) (countNumber s)) [] (a .1) .0 in
+    let d = described (shapeRead s) (head-described s (a .0)) in
     let m = first-zero (numberRefusal (countNumber s)) _ r in
     let f = first-zero _ _ (m .1) in
-    let p = first-zero (positionsRefusal s (columns (shapeOf s)) (countOf s) 0 (nextOf (countNumber s))) _ (f .1) in
-    let c = first-zero (columnsRefusal (length s - columnsStart s) ((columns (shapeOf s) - countOf s) * shapeOf s .l)) [] (p .1) .0 in
+    let p = first-zero (positionsRefusal s (columns (shapeRead s)) (countOf s) 0 (nextOf (countNumber s))) _ (f .1) in
+    let c = first-zero (columnsRefusal (length s - columnsStart s) ((columns (shapeRead s) - countOf s) * shapeRead s .l)) [] (p .1) .0 in
     record {
       head-read = a .0;
       shape-allowed = d .0;
@@ -156,25 +156,25 @@ accepted s e =
       count-read = m .0;
       few = leb-true _ _ (unless-zero _ 6 (omega arith) (f .0));
       positions-read = p .0;
-      ascending = positions-ascend s (columns (shapeOf s)) (countOf s) 0 (nextOf (countNumber s)) (p .0);
-      within = positions-within s (columns (shapeOf s)) (countOf s) 0 (nextOf (countNumber s)) (p .0) (next-within s (nextOf (fourthNumber s)) (m .0));
+      ascending = positions-ascend s (columns (shapeRead s)) (countOf s) 0 (nextOf (countNumber s)) (p .0);
+      within = positions-within s (columns (shapeRead s)) (countOf s) 0 (nextOf (countNumber s)) (p .0) (next-within s (nextOf (fourthNumber s)) (m .0));
       exact = columns-zero _ _ c;
     }
 
 -- a verdict tells the refusal
 pub lawful-says : (s : List ℕ) (sh : Shape) (m f e : ℕ) → Lawful sh m f e ≡ verdictOf s
-    → (contentRefusal s ≡ 0) × (sh ≡ shapeOf s) × (m ≡ countOf s) × (f ≡ nextOf (countNumber s)) × (e ≡ columnsStart s)
+    → (contentRefusal s ≡ 0) × (sh ≡ shapeRead s) × (m ≡ countOf s) × (f ≡ nextOf (countNumber s)) × (e ≡ columnsStart s)
 lawful-says s sh m f e q = go (eqb (contentRefusal s) 0) refl q
   where
-    go : (b : Bool) → eqb (contentRefusal s) 0 ≡ b → Lawful sh m f e ≡ cond b (Lawful (shapeOf s) (countOf s) (nextOf (countNumber s)) (columnsStart s)) (Refused (contentRefusal s))
-        → (contentRefusal s ≡ 0) × (sh ≡ shapeOf s) × (m ≡ countOf s) × (f ≡ nextOf (countNumber s)) × (e ≡ columnsStart s)
+    go : (b : Bool) → eqb (contentRefusal s) 0 ≡ b → Lawful sh m f e ≡ cond b (Lawful (shapeRead s) (countOf s) (nextOf (countNumber s)) (columnsStart s)) (Refused (contentRefusal s))
+        → (contentRefusal s ≡ 0) × (sh ≡ shapeRead s) × (m ≡ countOf s) × (f ≡ nextOf (countNumber s)) × (e ≡ columnsStart s)
     go true p w = (eqb-true (contentRefusal s) 0 p, cc, cc, cc, cc)
     go false p w = absurd (let z : _≡_ {A = ℕ} 0 1 = cc in omega arith)
 
 pub refused-says : (s : List ℕ) (num : ℕ) → Refused num ≡ verdictOf s → (num ≡ contentRefusal s) × (num ≡ 0 → ⊥)
 refused-says s num q = go (eqb (contentRefusal s) 0) refl q
   where
-    go : (b : Bool) → eqb (contentRefusal s) 0 ≡ b → Refused num ≡ cond b (Lawful (shapeOf s) (countOf s) (nextOf (countNumber s)) (columnsStart s)) (Refused (contentRefusal s))
+    go : (b : Bool) → eqb (contentRefusal s) 0 ≡ b → Refused num ≡ cond b (Lawful (shapeRead s) (countOf s) (nextOf (countNumber s)) (columnsStart s)) (Refused (contentRefusal s))
         → (num ≡ contentRefusal s) × (num ≡ 0 → ⊥)
     go true p w = absurd (let z : _≡_ {A = ℕ} 0 1 = cc in omega arith)
     go false p w =

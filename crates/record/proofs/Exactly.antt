@@ -11,8 +11,8 @@ use Rattle.field.specs.Bytes.{Bytes}
 use Rattle.stripe.specs.Shape.{columns, stripeLength}
 use Rattle.stripe.specs.Stripe.{among}
 use Rattle.number.specs.Number.{numberAt, numberRefusal, written, valueOf, nextOf}
-use Rattle.record.specs.Layout.{positions, survivors, kept, restored, recordHead, recordOf}
-use Rattle.record.specs.Reading.{firstNumber, secondNumber, thirdNumber, fourthNumber, countNumber, shapeOf, countOf, lostOf, columnsStart, headRefusal, positionsRefusal, positionsAt, afterPositions, contentRefusal, columnsFilled}
+use Rattle.record.specs.Layout.{positionsWritten, survivors, kept, restored, recordHead, recordOf}
+use Rattle.record.specs.Reading.{firstNumber, secondNumber, thirdNumber, fourthNumber, countNumber, shapeRead, countOf, lostListed, columnsStart, headRefusal, positionsRefusal, positionsAt, afterPositions, contentRefusal, columnsFilled}
 use Rattle.number.proofs.Written.{only-written}
 use Rattle.record.proofs.Survivors.{restored-lost, restored-kept, survivors-lost, survivors-kept}
 use Rattle.record.proofs.Refusals.{first-zero}
@@ -25,15 +25,15 @@ use Rattle.record.proofs.Listing.{positions-length}
 number-splits : (s : List ℕ) (at : ℕ) → Bytes s → numberRefusal (numberAt s at) ≡ 0 → drop at s ≡ written (valueOf (numberAt s at)) ++ drop (nextOf (numberAt s at)) s
 number-splits s at h e = only-written s at (valueOf (numberAt s at)) (nextOf (numberAt s at)) h (number-is (numberAt s at) e) .2
 
-positions-split : (s : List ℕ) (n m least at : ℕ) → Bytes s → positionsRefusal s n m least at ≡ 0 → drop at s ≡ positions (positionsAt s m at) ++ drop (afterPositions s m at) s
-unfolding positions positionsAt afterPositions
+positions-split : (s : List ℕ) (n m least at : ℕ) → Bytes s → positionsRefusal s n m least at ≡ 0 → drop at s ≡ positionsWritten (positionsAt s m at) ++ drop (afterPositions s m at) s
+unfolding positionsWritten positionsAt afterPositions
 positions-split s n zero least at h e = refl
 positions-split s n (suc m) least at h e =
     let a = positions-zero s n m least at e in
     let g = numberAt s at in
     number-splits s at h (position-zero g least n (a .0) .0)
     ∙ ap (λ (ys : List ℕ). written (valueOf g) ++ ys) (positions-split s n m (valueOf g + 1) (nextOf g) h (a .1))
-    ∙ sym (append-assoc (written (valueOf g)) (positions (positionsAt s m (nextOf g))) (drop (afterPositions s m (nextOf g)) s))
+    ∙ sym (append-assoc (written (valueOf g)) (positionsWritten (positionsAt s m (nextOf g))) (drop (afterPositions s m (nextOf g)) s))
 
 record Head (s : List ℕ) : Type 0 where
   one : numberRefusal (firstNumber s) ≡ 0
@@ -53,7 +53,7 @@ head-numbers s e =
 pub joined : (a b c d e f rest : List ℕ) → a ++ (b ++ (c ++ (d ++ (e ++ (f ++ rest))))) ≡ (a ++ (b ++ (c ++ (d ++ (e ++ f))))) ++ rest
 joined a b c d e f rest = simp append-assoc
 
-pub head-splits : (s : List ℕ) → Bytes s → Accepted s → s ≡ recordHead (shapeOf s) (lostOf s) ++ drop (columnsStart s) s
+pub head-splits : (s : List ℕ) → Bytes s → Accepted s → s ≡ recordHead (shapeRead s) (lostListed s) ++ drop (columnsStart s) s
 unfolding recordHead
 head-splits s h w =
     let n = head-numbers s (w .head-read) in
@@ -61,15 +61,15 @@ head-splits s h w =
     let r = written (valueOf (secondNumber s)) in
     let t = written (valueOf (thirdNumber s)) in
     let l = written (valueOf (fourthNumber s)) in
-    let m = written (length (lostOf s)) in
+    let m = written (length (lostListed s)) in
     number-splits s 0 h (n .one)
     ∙ ap (λ (ys : List ℕ). k ++ ys) (number-splits s (nextOf (firstNumber s)) h (n .two))
     ∙ ap (λ (ys : List ℕ). k ++ (r ++ ys)) (number-splits s (nextOf (secondNumber s)) h (n .three))
     ∙ ap (λ (ys : List ℕ). k ++ (r ++ (t ++ ys))) (number-splits s (nextOf (thirdNumber s)) h (n .four))
     ∙ ap (λ (ys : List ℕ). k ++ (r ++ (t ++ (l ++ ys)))) (number-splits s (nextOf (fourthNumber s)) h (w .count-read))
     ∙ ap (λ (x : ℕ). k ++ (r ++ (t ++ (l ++ (written x ++ drop (nextOf (countNumber s)) s))))) (sym (positions-length s (countOf s) (nextOf (countNumber s))))
-    ∙ ap (λ (ys : List ℕ). k ++ (r ++ (t ++ (l ++ (m ++ ys))))) (positions-split s (columns (shapeOf s)) (countOf s) 0 (nextOf (countNumber s)) h (w .positions-read))
-    ∙ joined k r t l m (positions (lostOf s)) (drop (columnsStart s) s)
+    ∙ ap (λ (ys : List ℕ). k ++ (r ++ (t ++ (l ++ (m ++ ys))))) (positions-split s (columns (shapeRead s)) (countOf s) 0 (nextOf (countNumber s)) h (w .positions-read))
+    ∙ joined k r t l m (positionsWritten (lostListed s)) (drop (columnsStart s) s)
 
 -- ---- the columns
 
@@ -110,17 +110,17 @@ survivors-restored l c (suc m) es ys xs e h =
         ∙ take-append-drop l ys
 
 -- the bytes after the positions are those of the columns that survive
-pub columns-enough : (s : List ℕ) → Accepted s → length (drop (columnsStart s) s) ≡ kept (lostOf s) 0 (columns (shapeOf s)) * shapeOf s .l
+pub columns-enough : (s : List ℕ) → Accepted s → length (drop (columnsStart s) s) ≡ kept (lostListed s) 0 (columns (shapeRead s)) * shapeRead s .l
 columns-enough s w =
-    let k = kept-lost (columns (shapeOf s)) (columns (shapeOf s)) 0 (lostOf s) (w .ascending) (omega arith) in
-    let q : columns (shapeOf s) - countOf s ≡ kept (lostOf s) 0 (columns (shapeOf s)) = omega (arith, positions-length s (countOf s) (nextOf (countNumber s))) in
-    length-drop (columnsStart s) s ∙ w .exact ∙ ap (λ (n : ℕ). n * shapeOf s .l) q
+    let k = kept-lost (columns (shapeRead s)) (columns (shapeRead s)) 0 (lostListed s) (w .ascending) (omega arith) in
+    let q : columns (shapeRead s) - countOf s ≡ kept (lostListed s) 0 (columns (shapeRead s)) = omega (arith, positions-length s (countOf s) (nextOf (countNumber s))) in
+    length-drop (columnsStart s) s ∙ w .exact ∙ ap (λ (n : ℕ). n * shapeRead s .l) q
 
 -- writing what was read gives the same bytes: an accepted record is the record of its shape, its lost columns and its stripe
-pub accepts-only : (s xs : List ℕ) → Bytes s → contentRefusal s ≡ 0 → stripeLength (shapeOf s) ≤ length xs → s ≡ recordOf (shapeOf s) (lostOf s) (columnsFilled s xs)
+pub accepts-only : (s xs : List ℕ) → Bytes s → contentRefusal s ≡ 0 → stripeLength (shapeRead s) ≤ length xs → s ≡ recordOf (shapeRead s) (lostListed s) (columnsFilled s xs)
 unfolding recordOf
 accepts-only s xs h e room =
     let w = accepted s e in
     head-splits s h w
-    ∙ ap (λ (ys : List ℕ). recordHead (shapeOf s) (lostOf s) ++ ys)
-    (sym (survivors-restored (shapeOf s .l) 0 (columns (shapeOf s)) (lostOf s) (drop (columnsStart s) s) xs (columns-enough s w) room))
+    ∙ ap (λ (ys : List ℕ). recordHead (shapeRead s) (lostListed s) ++ ys)
+    (sym (survivors-restored (shapeRead s .l) 0 (columns (shapeRead s)) (lostListed s) (drop (columnsStart s) s) xs (columns-enough s w) room))

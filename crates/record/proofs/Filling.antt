@@ -16,19 +16,19 @@ use Rattle.record.specs.declared.read.Got.{Got}
 use Rattle.record.specs.declared.read.Verdict.the-variants.{Lawful}
 use Rattle.record.specs.Layout.{kept, restored}
 use Rattle.number.specs.Number.{nextOf}
-use Rattle.record.specs.Reading.{unless, countNumber, shapeOf, countOf, lostOf, columnsStart, positionsAt, contentRefusal, verdictOf, readRefusal, gotOf, columnsFilled, positionsFilled, stripeRead, lostRead}
+use Rattle.record.specs.Reading.{unless, countNumber, shapeRead, countOf, lostListed, columnsStart, positionsAt, contentRefusal, verdictOf, readRefusal, gotOf, columnsFilled, positionsFilled, stripeRead, lostRead}
 use Rattle.record.proofs.Refusals.{stop, skip, only, passed, failed}
 use Rattle.record.proofs.Accepted.{Accepted, accepted, lawful-says, ascending-below, kept-lost}
 use Rattle.record.proofs.Listing.{positions-length}
 
 module _ (s : List ℕ) (sh : Shape) (m f e : ℕ) (law : Lawful sh m f e ≡ verdictOf s) where
-  says : (contentRefusal s ≡ 0) × (sh ≡ shapeOf s) × (m ≡ countOf s) × (f ≡ nextOf (countNumber s)) × (e ≡ columnsStart s)
+  says : (contentRefusal s ≡ 0) × (sh ≡ shapeRead s) × (m ≡ countOf s) × (f ≡ nextOf (countNumber s)) × (e ≡ columnsStart s)
   says = lawful-says s sh m f e law
 
   good : Accepted s
   good = accepted s (says .0)
 
-  wide : columns sh ≡ columns (shapeOf s)
+  wide : columns sh ≡ columns (shapeRead s)
   wide = ap (λ (v : Shape). columns v) (says .1)
 
   pub fill-columns-few : columns sh ≤ 258
@@ -43,23 +43,23 @@ module _ (s : List ℕ) (sh : Shape) (m f e : ℕ) (law : Lawful sh m f e ≡ ve
   pub fill-within : e ≤ length s
   fill-within = omega (arith, says .4, good .within)
 
-  lost-is : positionsAt s m f ≡ lostOf s
+  lost-is : positionsAt s m f ≡ lostListed s
   lost-is = ap₂ (positionsAt s) (says .2) (says .3)
 
   pub fill-small : (i : ℕ) → getD (positionsAt s m f) i 0 < 65536
-  fill-small i = subst (λ (es : List ℕ). getD es i 0 < 65536) (sym lost-is) (⊎-elim (λ l. omega (arith, fill-columns-few, wide)) (λ z. omega arith) (ascending-below 0 (columns (shapeOf s)) (lostOf s) (good .ascending) i))
+  fill-small i = subst (λ (es : List ℕ). getD es i 0 < 65536) (sym lost-is) (⊎-elim (λ l. omega (arith, fill-columns-few, wide)) (λ z. omega arith) (ascending-below 0 (columns (shapeRead s)) (lostListed s) (good .ascending) i))
 
-  pub fill-front : (es lost : List ℕ) → lost ≡ over es 0 (positionsAt s m f) → take m lost ≡ lostOf s
+  pub fill-front : (es lost : List ℕ) → lost ≡ over es 0 (positionsAt s m f) → take m lost ≡ lostListed s
   fill-front es lost q =
       ap (take m) (q ∙ over-front es (positionsAt s m f)) ∙ take-at (positionsAt s m f) _ m (positions-length s m f) ∙ lost-is
 
   pub fill-rest : take (length s - e) (drop e s) ≡ drop (columnsStart s) s
   fill-rest = take-all (length s - e) (drop e s) (omega (arith, length-drop e s)) ∙ ap (λ (n : ℕ). drop n s) (says .4)
 
-  survive : kept (lostOf s) 0 (columns (shapeOf s)) ≡ columns (shapeOf s) - countOf s
-  survive = omega (arith, kept-lost (columns (shapeOf s)) (columns (shapeOf s)) 0 (lostOf s) (good .ascending) (omega arith), positions-length s (countOf s) (nextOf (countNumber s)))
+  survive : kept (lostListed s) 0 (columns (shapeRead s)) ≡ columns (shapeRead s) - countOf s
+  survive = omega (arith, kept-lost (columns (shapeRead s)) (columns (shapeRead s)) 0 (lostListed s) (good .ascending) (omega arith), positions-length s (countOf s) (nextOf (countNumber s)))
 
-  pub fill-bytes : (es : List ℕ) → es ≡ lostOf s → kept es 0 (columns sh) * sh .l ≤ length (take (length s - e) (drop e s))
+  pub fill-bytes : (es : List ℕ) → es ≡ lostListed s → kept es 0 (columns sh) * sh .l ≤ length (take (length s - e) (drop e s))
   fill-bytes es q =
       omega (
         arith,
@@ -67,18 +67,18 @@ module _ (s : List ℕ) (sh : Shape) (m f e : ℕ) (law : Lawful sh m f e ≡ ve
         length-drop (columnsStart s) s,
         good .exact,
         ap₂ (λ (x : List ℕ) (v : Shape). kept x 0 (columns v) * v .l) q (says .1),
-        ap (λ (n : ℕ). n * shapeOf s .l) survive,
+        ap (λ (n : ℕ). n * shapeRead s .l) survive,
       )
 
-  pub fill-columns-is : (es xs xs′ : List ℕ) → es ≡ lostOf s → xs′ ≡ restored (sh .l) es 0 (columns sh) (take (length s - e) (drop e s)) xs → xs′ ≡ columnsFilled s xs
+  pub fill-columns-is : (es xs xs′ : List ℕ) → es ≡ lostListed s → xs′ ≡ restored (sh .l) es 0 (columns sh) (take (length s - e) (drop e s)) xs → xs′ ≡ columnsFilled s xs
   fill-columns-is es xs xs′ q w =
       w ∙ ap₂ (λ (x : List ℕ) (v : Shape). restored (v .l) x 0 (columns v) (take (length s - e) (drop e s)) xs) q (says .1)
-      ∙ ap (λ (ys : List ℕ). restored (shapeOf s .l) (lostOf s) 0 (columns (shapeOf s)) ys xs) fill-rest
+      ∙ ap (λ (ys : List ℕ). restored (shapeRead s .l) (lostListed s) 0 (columns (shapeRead s)) ys xs) fill-rest
 
   pub fill-positions-is : (es es′ : List ℕ) → es′ ≡ over es 0 (positionsAt s m f) → es′ ≡ positionsFilled s es
   fill-positions-is es es′ w = w ∙ ap (over es 0) lost-is
 
-  pub fill-got : _≡_ {A = Got} (record { number = 0; shape = sh; lost = m }) (record { number = 0; shape = shapeOf s; lost = countOf s })
+  pub fill-got : _≡_ {A = Got} (record { number = 0; shape = sh; lost = m }) (record { number = 0; shape = shapeRead s; lost = countOf s })
   fill-got = ap₂ read (says .1) (says .2)
     where
       read : Shape → ℕ → Got
@@ -120,7 +120,7 @@ read-refused s xs es num g e q z =
     let b = ne-eqb (readRefusal s (length xs) (length es)) 0 (λ y. z (q ∙ y)) in
     (e ∙ rw (b, q), (rw b, rw b))
 
-pub read-accepted : (s xs es xs′ es′ : List ℕ) (g : Got) → readRefusal s (length xs) (length es) ≡ 0 → g ≡ record { number = 0; shape = shapeOf s; lost = countOf s }
+pub read-accepted : (s xs es xs′ es′ : List ℕ) (g : Got) → readRefusal s (length xs) (length es) ≡ 0 → g ≡ record { number = 0; shape = shapeRead s; lost = countOf s }
     → xs′ ≡ columnsFilled s xs → es′ ≡ positionsFilled s es
     → (g ≡ gotOf s (length xs) (length es)) × ((xs′ ≡ stripeRead s xs (length es)) × (es′ ≡ lostRead s (length xs) es))
 read-accepted s xs es xs′ es′ g z e p q =

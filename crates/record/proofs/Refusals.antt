@@ -16,7 +16,7 @@ use Rattle.record.specs.declared.read.Head.the-variants.{Shaped, Unshape
 use Rattle.record.specs.declared.read.Listed.the-variants.{Upto, Unlisted}
 use Rattle.record.specs.declared.read.Verdict.the-variants.{Lawful, Refused}
 use Rattle.number.specs.Number.{numberAt, numberRefusal, valueOf, nextOf}
-use Rattle.record.specs.Reading.{firstOf, unless, firstNumber, secondNumber, thirdNumber, fourthNumber, countNumber, shapeOf, countOf, columnsStart, stripeRefusal, headRefusal, positionRefusal, positionsRefusal, afterPositions, columnsRefusal, restRefusal, contentRefusal, headOf, listedOf, restOf, verdictOf}
+use Rattle.record.specs.Reading.{firstOf, unless, firstNumber, secondNumber, thirdNumber, fourthNumber, countNumber, shapeRead, countOf, columnsStart, stripeRefusal, headRefusal, positionRefusal, positionsRefusal, afterPositions, columnsRefusal, restRefusal, contentRefusal, headOf, listedOf, restOf, verdictOf}
 
 -- ---- the first of several
 
@@ -65,7 +65,7 @@ stripe-lawful s e h = end ∙ skip _ [] (passed _ 5 (le-leb (stripeLength s) 655
 pub unshaped : (s : List ℕ) (num : ℕ) → num ≡ headRefusal s → (num ≡ 0 → ⊥) → Unshaped num ≡ headOf s
 unshaped s num e z = rw (ne-eqb (headRefusal s) 0 (λ y. z (e ∙ y)), e)
 
-pub shaped : (s : List ℕ) → headRefusal s ≡ 0 → Shaped (shapeOf s) (nextOf (fourthNumber s)) ≡ headOf s
+pub shaped : (s : List ℕ) → headRefusal s ≡ 0 → Shaped (shapeRead s) (nextOf (fourthNumber s)) ≡ headOf s
 shaped s e = rw (eq-eqb (headRefusal s) 0 e)
 
 pub head-first : (s : List ℕ) (num : ℕ) → num ≡ numberRefusal (firstNumber s) → (num ≡ 0 → ⊥) → num ≡ headRefusal s
@@ -88,11 +88,11 @@ module _ (s : List ℕ) (one : numberRefusal (firstNumber s) ≡ 0) where
       head-fourth num e z = stop num _ _ e z ∙ skip _ _ three ∙ skip _ _ two ∙ skip _ _ one
 
       module _ (four : numberRefusal (fourthNumber s) ≡ 0) where
-        pub head-stripe : (num : ℕ) → num ≡ stripeRefusal (shapeOf s) → (num ≡ 0 → ⊥) → num ≡ headRefusal s
+        pub head-stripe : (num : ℕ) → num ≡ stripeRefusal (shapeRead s) → (num ≡ 0 → ⊥) → num ≡ headRefusal s
         unfolding headRefusal
         head-stripe num e z = stop num _ _ e z ∙ skip _ _ four ∙ skip _ _ three ∙ skip _ _ two ∙ skip _ _ one
 
-        pub head-lawful : stripeRefusal (shapeOf s) ≡ 0 → _≡_ {A = ℕ} 0 (headRefusal s)
+        pub head-lawful : stripeRefusal (shapeRead s) ≡ 0 → _≡_ {A = ℕ} 0 (headRefusal s)
         unfolding headRefusal
         head-lawful e = end ∙ skip _ _ e ∙ skip _ _ four ∙ skip _ _ three ∙ skip _ _ two ∙ skip _ _ one
 
@@ -229,18 +229,18 @@ listed-not s n m at num q = go (eqb (positionsRefusal s n m 0 at) 0) refl q
         (e, λ z. eqb-false (positionsRefusal s n m 0 at) 0 p (sym e ∙ z))
 
 -- a front was judged lawful exactly when its refusal is 0
-pub head-shaped : (s : List ℕ) (sh : Shape) (at : ℕ) → Shaped sh at ≡ headOf s → (headRefusal s ≡ 0) × (sh ≡ shapeOf s) × (at ≡ nextOf (fourthNumber s))
+pub head-shaped : (s : List ℕ) (sh : Shape) (at : ℕ) → Shaped sh at ≡ headOf s → (headRefusal s ≡ 0) × (sh ≡ shapeRead s) × (at ≡ nextOf (fourthNumber s))
 head-shaped s sh at q = go (eqb (headRefusal s) 0) refl q
   where
-    go : (b : Bool) → eqb (headRefusal s) 0 ≡ b → Shaped sh at ≡ cond b (Shaped (shapeOf s) (nextOf (fourthNumber s))) (Unshaped (headRefusal s))
-        → (headRefusal s ≡ 0) × (sh ≡ shapeOf s) × (at ≡ nextOf (fourthNumber s))
+    go : (b : Bool) → eqb (headRefusal s) 0 ≡ b → Shaped sh at ≡ cond b (Shaped (shapeRead s) (nextOf (fourthNumber s))) (Unshaped (headRefusal s))
+        → (headRefusal s ≡ 0) × (sh ≡ shapeRead s) × (at ≡ nextOf (fourthNumber s))
     go true p f = (eqb-true (headRefusal s) 0 p, cc, cc)
     go false p f = absurd (let z : _≡_ {A = ℕ} 0 1 = cc in omega arith)
 
 pub head-not : (s : List ℕ) (num : ℕ) → Unshaped num ≡ headOf s → (num ≡ headRefusal s) × (num ≡ 0 → ⊥)
 head-not s num q = go (eqb (headRefusal s) 0) refl q
   where
-    go : (b : Bool) → eqb (headRefusal s) 0 ≡ b → Unshaped num ≡ cond b (Shaped (shapeOf s) (nextOf (fourthNumber s))) (Unshaped (headRefusal s))
+    go : (b : Bool) → eqb (headRefusal s) 0 ≡ b → Unshaped num ≡ cond b (Shaped (shapeRead s) (nextOf (fourthNumber s))) (Unshaped (headRefusal s))
         → (num ≡ headRefusal s) × (num ≡ 0 → ⊥)
     go true p f = absurd (let z : _≡_ {A = ℕ} 0 1 = cc in omega arith)
     go false p f =
@@ -253,7 +253,7 @@ unfolding firstOf
 first-zero zero xs e = (refl, e)
 first-zero (suc x) xs e = absurd (omega arith)
 
-pub head-described : (s : List ℕ) → headRefusal s ≡ 0 → stripeRefusal (shapeOf s) ≡ 0
+pub head-described : (s : List ℕ) → headRefusal s ≡ 0 → stripeRefusal (shapeRead s) ≡ 0
 unfolding headRefusal
 head-described s e =
     let a = first-zero _ _ e in
@@ -285,13 +285,13 @@ refused-head s num e z =
     let q : num ≡ contentRefusal s = stop num _ _ e z in
     rw (ne-eqb (contentRefusal s) 0 (λ y. z (q ∙ y)), q)
 
-pub content-rest : (s : List ℕ) → headRefusal s ≡ 0 → restRefusal s (shapeOf s) (countNumber s) ≡ contentRefusal s
+pub content-rest : (s : List ℕ) → headRefusal s ≡ 0 → restRefusal s (shapeRead s) (countNumber s) ≡ contentRefusal s
 unfolding contentRefusal
 content-rest s e = only _ ∙ skip _ _ e
 
-pub judged-rest : (s : List ℕ) → headRefusal s ≡ 0 → restOf s (shapeOf s) (countNumber s) ≡ verdictOf s
+pub judged-rest : (s : List ℕ) → headRefusal s ≡ 0 → restOf s (shapeRead s) (countNumber s) ≡ verdictOf s
 judged-rest s e =
-    ap (λ (num : ℕ). cond (eqb num 0) (Lawful (shapeOf s) (countOf s) (nextOf (countNumber s)) (columnsStart s)) (Refused num)) (content-rest s e)
+    ap (λ (num : ℕ). cond (eqb num 0) (Lawful (shapeRead s) (countOf s) (nextOf (countNumber s)) (columnsStart s)) (Refused num)) (content-rest s e)
 
 pub got-refused : (num : ℕ) (v : Shape) → (v .k ≡ 0) × ((v .r ≡ 0) × ((v .t ≡ 0) × (v .l ≡ 0)))
     → _≡_ {A = Got} (record { number = num; shape = v; lost = 0 }) (record { number = num; shape = noShape; lost = 0 })

@@ -10,9 +10,9 @@ use Rattle.stripe.specs.Stripe.{among}
 use Rattle.number.specs.Number.{written}
 
 -- the positions of the lost columns, one number after the other
-unfoldable pub positions : List ℕ → List ℕ
-positions [] = []
-positions (e ∷ es) = written e ++ positions es
+unfoldable pub positionsWritten : List ℕ → List ℕ
+positionsWritten [] = []
+positionsWritten (e ∷ es) = written e ++ positionsWritten es
 
 -- of m columns of l bytes, the first at position c, those that are not lost
 unfoldable pub survivors : ℕ → List ℕ → ℕ → ℕ → List ℕ → List ℕ
@@ -26,7 +26,7 @@ kept es c (suc m) = cond (among c es) 0 1 + kept es (suc c) m
 
 -- the numbers at the front of a record
 unfoldable pub recordHead : Shape → List ℕ → List ℕ
-recordHead s es = written (s .k) ++ (written (s .r) ++ (written (s .t) ++ (written (s .l) ++ (written (length es) ++ positions es))))
+recordHead s es = written (s .k) ++ (written (s .r) ++ (written (s .t) ++ (written (s .l) ++ (written (length es) ++ positionsWritten es))))
 
 -- the record of a stripe xs whose columns es are lost
 unfoldable pub recordOf : Shape → List ℕ → List ℕ → List ℕ

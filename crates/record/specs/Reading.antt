@@ -45,8 +45,8 @@ fourthNumber s = numberAt s (nextOf (thirdNumber s))
 abbrev pub countNumber : List ℕ → Number
 countNumber s = numberAt s (nextOf (fourthNumber s))
 
-abbrev pub shapeOf : List ℕ → Shape
-shapeOf s = record { k = valueOf (firstNumber s); r = valueOf (secondNumber s); t = valueOf (thirdNumber s); l = valueOf (fourthNumber s) }
+abbrev pub shapeRead : List ℕ → Shape
+shapeRead s = record { k = valueOf (firstNumber s); r = valueOf (secondNumber s); t = valueOf (thirdNumber s); l = valueOf (fourthNumber s) }
 
 -- the refusal of a described stripe: its shape, then its bytes above 65,536
 unfoldable pub stripeRefusal : Shape → ℕ
@@ -59,7 +59,7 @@ headRefusal s =
     ∷ numberRefusal (secondNumber s)
     ∷ numberRefusal (thirdNumber s)
     ∷ numberRefusal (fourthNumber s)
-    ∷ stripeRefusal (shapeOf s)
+    ∷ stripeRefusal (shapeRead s)
     ∷ [])
 
 -- the refusal of what is read as a position: no number, or not at least `least` and below n
@@ -96,14 +96,14 @@ restRefusal s sh g =
 
 -- the refusal of a record's bytes
 unfoldable pub contentRefusal : List ℕ → ℕ
-contentRefusal s = firstOf (headRefusal s ∷ restRefusal s (shapeOf s) (countNumber s) ∷ [])
+contentRefusal s = firstOf (headRefusal s ∷ restRefusal s (shapeRead s) (countNumber s) ∷ [])
 
 -- how many columns are lost, which, and where the surviving ones start
 abbrev pub countOf : List ℕ → ℕ
 countOf s = valueOf (countNumber s)
 
-abbrev pub lostOf : List ℕ → List ℕ
-lostOf s = positionsAt s (countOf s) (nextOf (countNumber s))
+abbrev pub lostListed : List ℕ → List ℕ
+lostListed s = positionsAt s (countOf s) (nextOf (countNumber s))
 
 abbrev pub columnsStart : List ℕ → ℕ
 columnsStart s = afterPositions s (countOf s) (nextOf (countNumber s))
@@ -116,15 +116,15 @@ readRefusal s stripeRoom lostRoom =
 -- what reading reports: the shape and the number lost, or a refusal
 abbrev pub gotOf : List ℕ → ℕ → ℕ → Got
 gotOf s stripeRoom lostRoom =
-    cond (eqb (readRefusal s stripeRoom lostRoom) 0) (record { number = 0; shape = shapeOf s; lost = countOf s })
+    cond (eqb (readRefusal s stripeRoom lostRoom) 0) (record { number = 0; shape = shapeRead s; lost = countOf s })
     (record { number = readRefusal s stripeRoom lostRoom; shape = noShape; lost = 0 })
 
 -- the surviving columns put in their places of a stripe buffer, and the lost positions at the front of a list
 abbrev pub columnsFilled : List ℕ → List ℕ → List ℕ
-columnsFilled s xs = restored (shapeOf s .l) (lostOf s) 0 (columns (shapeOf s)) (drop (columnsStart s) s) xs
+columnsFilled s xs = restored (shapeRead s .l) (lostListed s) 0 (columns (shapeRead s)) (drop (columnsStart s) s) xs
 
 abbrev pub positionsFilled : List ℕ → List ℕ → List ℕ
-positionsFilled s es = over es 0 (lostOf s)
+positionsFilled s es = over es 0 (lostListed s)
 
 -- the lent buffer and the lent list after reading
 abbrev pub stripeRead : List ℕ → List ℕ → ℕ → List ℕ
@@ -135,7 +135,7 @@ lostRead s stripeRoom es = cond (eqb (readRefusal s stripeRoom (length es)) 0) (
 
 -- the answers of the functions that judge: what was read, or the refusal
 abbrev pub headOf : List ℕ → Head
-headOf s = cond (eqb (headRefusal s) 0) (Shaped (shapeOf s) (nextOf (fourthNumber s))) (Unshaped (headRefusal s))
+headOf s = cond (eqb (headRefusal s) 0) (Shaped (shapeRead s) (nextOf (fourthNumber s))) (Unshaped (headRefusal s))
 
 abbrev pub listedOf : List ℕ → ℕ → ℕ → ℕ → Listed
 listedOf s n m at = cond (eqb (positionsRefusal s n m 0 at) 0) (Upto (afterPositions s m at)) (Unlisted (positionsRefusal s n m 0 at))
@@ -146,4 +146,4 @@ restOf s sh g =
 
 abbrev pub verdictOf : List ℕ → Verdict
 verdictOf s =
-    cond (eqb (contentRefusal s) 0) (Lawful (shapeOf s) (countOf s) (nextOf (countNumber s)) (columnsStart s)) (Refused (contentRefusal s))
+    cond (eqb (contentRefusal s) 0) (Lawful (shapeRead s) (countOf s) (nextOf (countNumber s)) (columnsStart s)) (Refused (contentRefusal s))

@@ -7,12 +7,12 @@ use borrow.Author.Tests.{ne-eqb, lt-ltb, le-ltb}
 use Rattle.stripe.specs.declared.Shape.{Shape}
 use Rattle.plan.specs.Plan.{foldRefusal, columnsRead}
 use Rattle.shelf.specs.Shelf.{spansRefusal, spansWritten, spansAnswer}
-use Rattle.shelf.specs.declared.Answer.{Answer}
+use Rattle.shelf.specs.declared.SpansAnswer.{SpansAnswer}
 
-same-answer : (a b : Answer) → a .no ≡ b .no → a .spans ≡ b .spans → a ≡ b
+same-answer : (a b : SpansAnswer) → a .no ≡ b .no → a .spans ≡ b .spans → a ≡ b
 same-answer a b e g i = record { no = e i; spans = g i }
 
-abbrev answer : ℕ → ℕ → Answer
+abbrev answer : ℕ → ℕ → SpansAnswer
 answer c m = record { no = c; spans = m }
 
 none-written : (s : Shape) (n f room c : ℕ) → spansRefusal s n f room ≡ c → eqb c 0 ≡ false → spansWritten s n f room ≡ 0

@@ -8,7 +8,7 @@ use Rattle.field.specs.Bytes.{over}
 use Rattle.stripe.specs.declared.Shape.{Shape}
 use Rattle.plan.specs.declared.Span.{Span}
 use Rattle.plan.specs.Plan.{foldRefusal, columnsRead, plan}
-use Rattle.shelf.specs.declared.Answer.{Answer}
+use Rattle.shelf.specs.declared.SpansAnswer.{SpansAnswer}
 
 -- the shape of the four numbers of a call
 abbrev pub shapeOf : ℕ → ℕ → ℕ → ℕ → Shape
@@ -22,7 +22,7 @@ spansRefusal s n f room = cond (eqb (foldRefusal s n f) 0) (cond (ltb room (colu
 unfoldable pub spansWritten : Shape → ℕ → ℕ → ℕ → ℕ
 spansWritten s n f room = cond (eqb (spansRefusal s n f room) 0) (columnsRead s n f) 0
 
-abbrev pub spansAnswer : Shape → ℕ → ℕ → ℕ → Answer
+abbrev pub spansAnswer : Shape → ℕ → ℕ → ℕ → SpansAnswer
 spansAnswer s n f room = record { no = spansRefusal s n f room; spans = spansWritten s n f room }
 
 -- what the list holds in the end: the plan, and after it what it held; or what it held where the call is refused

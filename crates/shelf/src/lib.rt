@@ -108,25 +108,25 @@ pub extern "C" fn shelf_plan_bytes_read(k: u64, r: u64, t: u64, l: u64, stripes:
 }
 
 // What is answered to a call for the spans of a plan: the refusal, and how many spans are written.
-struct Answer {
+struct SpansAnswer {
     no: u32,
     spans: usize,
 }
 
 // The answer for a list of so many records: 1 to 4 where the fold is refused, 5 where the plan has more spans.
-fn spans_answer(k: u64, r: u64, t: u64, l: u64, stripes: u64, f: u64, room: usize) -> Answer
+fn spans_answer(k: u64, r: u64, t: u64, l: u64, stripes: u64, f: u64, room: usize) -> SpansAnswer
     ensures { λ v. ⌜ v ≡ spansAnswer (shapeOf k r t l) stripes f room ⌝ }
 {
     let s = shape_of(k, r, t, l);
     let no = fold_refusal(s, stripes as usize, f as usize);
     if no != 0 {
-        return Answer { no: no, spans: 0 };
+        return SpansAnswer { no: no, spans: 0 };
     }
     let spans = span_count(s, stripes as usize, f as usize);
     if room < spans {
-        return Answer { no: 5, spans: 0 };
+        return SpansAnswer { no: 5, spans: 0 };
     }
-    Answer { no: 0, spans }
+    SpansAnswer { no: 0, spans }
 }
 
 // Span number i of the plan.

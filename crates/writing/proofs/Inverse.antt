@@ -16,8 +16,8 @@ use Rattle.number.specs.declared.Number.{Number}
 use Rattle.number.specs.declared.Number.the-variants.{Value}
 use Rattle.number.specs.Number.{numberAt, numberRefusal, written, valueOf, nextOf}
 use Rattle.writing.specs.Writing.{LaidOut}
-use Rattle.record.specs.Layout.{positions, survivors, kept, restored, recordOf}
-use Rattle.record.specs.Reading.{firstNumber, secondNumber, thirdNumber, fourthNumber, countNumber, shapeOf, countOf, lostOf, columnsStart, stripeRefusal, headRefusal, positionsRefusal, positionsAt, afterPositions, contentRefusal, columnsFilled}
+use Rattle.record.specs.Layout.{positionsWritten, survivors, kept, restored, recordOf}
+use Rattle.record.specs.Reading.{firstNumber, secondNumber, thirdNumber, fourthNumber, countNumber, shapeRead, countOf, lostListed, columnsStart, stripeRefusal, headRefusal, positionsRefusal, positionsAt, afterPositions, contentRefusal, columnsFilled}
 use Rattle.number.proofs.Written.{read-written}
 use Rattle.record.proofs.Survivors.{restored-lost, restored-kept, survivors-lost, survivors-kept}
 use Rattle.record.proofs.Refusals.{described, position-lawful, skip, only, shape-is, head-lawful, rest-columns, columns-exact, content-rest, stripe-lawful, stripe-shaped, head-described}
@@ -60,11 +60,11 @@ positions-next s n m least at e es q l h g r =
       after = r .after;
     }
 
-positions-read : (s : List ℕ) (n least at : ℕ) (es q : List ℕ) → n ≤ 4294967295 → Ascending least n es → drop at s ≡ positions es ++ q → Listed s n (length es) least at es q
-unfolding positions Ascending positionsRefusal positionsAt afterPositions
+positions-read : (s : List ℕ) (n least at : ℕ) (es q : List ℕ) → n ≤ 4294967295 → Ascending least n es → drop at s ≡ positionsWritten es ++ q → Listed s n (length es) least at es q
+unfolding positionsWritten Ascending positionsRefusal positionsAt afterPositions
 positions-read s n least at [] q b h e = record { lawful = refl; list = refl; after = e }
 positions-read s n least at (x ∷ es) q b h e =
-    let g = number-next s (positions es ++ q) at x (omega (arith, h .1)) (e ∙ append-assoc (written x) (positions es) q) in
+    let g = number-next s (positionsWritten es ++ q) at x (omega (arith, h .1)) (e ∙ append-assoc (written x) (positionsWritten es) q) in
     positions-next s n (length es) least at x es q (h .0) (h .1) (g .value) (positions-read s n (suc x) (nextOf (numberAt s at)) es q b (h .2) (g .rest))
 
 -- ---- the whole record
@@ -82,38 +82,38 @@ module _ (sh : Shape) (es xs : List ℕ) (lawful : stripeRefusal sh ≡ 0) (asce
   few : kept es 0 (columns sh) + length es ≡ columns sh
   few = few-lost (columns sh) es ascending
 
-  split : s ≡ written (sh .k) ++ (written (sh .r) ++ (written (sh .t) ++ (written (sh .l) ++ (written (length es) ++ (positions es ++ columns-left)))))
+  split : s ≡ written (sh .k) ++ (written (sh .r) ++ (written (sh .t) ++ (written (sh .l) ++ (written (length es) ++ (positionsWritten es ++ columns-left)))))
   split =
       sym (record-is sh es xs) ∙ ap (λ (ys : List ℕ). ys ++ columns-left) (sym (head-is sh es))
-      ∙ sym (joined (written (sh .k)) (written (sh .r)) (written (sh .t)) (written (sh .l)) (written (length es)) (positions es) columns-left)
+      ∙ sym (joined (written (sh .k)) (written (sh .r)) (written (sh .t)) (written (sh .l)) (written (length es)) (positionsWritten es) columns-left)
 
-  one : Next s 0 (sh .k) (written (sh .r) ++ (written (sh .t) ++ (written (sh .l) ++ (written (length es) ++ (positions es ++ columns-left)))))
+  one : Next s 0 (sh .k) (written (sh .r) ++ (written (sh .t) ++ (written (sh .l) ++ (written (length es) ++ (positionsWritten es ++ columns-left)))))
   one = number-next s _ 0 (sh .k) (omega (arith, good .data-most)) split
 
-  two : Next s (nextOf (firstNumber s)) (sh .r) (written (sh .t) ++ (written (sh .l) ++ (written (length es) ++ (positions es ++ columns-left))))
+  two : Next s (nextOf (firstNumber s)) (sh .r) (written (sh .t) ++ (written (sh .l) ++ (written (length es) ++ (positionsWritten es ++ columns-left))))
   two = number-next s _ (nextOf (firstNumber s)) (sh .r) (omega (arith, good .parity-most)) (one .rest)
 
-  three : Next s (nextOf (secondNumber s)) (sh .t) (written (sh .l) ++ (written (length es) ++ (positions es ++ columns-left)))
+  three : Next s (nextOf (secondNumber s)) (sh .t) (written (sh .l) ++ (written (length es) ++ (positionsWritten es ++ columns-left)))
   three = number-next s _ (nextOf (secondNumber s)) (sh .t) (omega (arith, mark-small sh good)) (two .rest)
 
-  four : Next s (nextOf (thirdNumber s)) (sh .l) (written (length es) ++ (positions es ++ columns-left))
+  four : Next s (nextOf (thirdNumber s)) (sh .l) (written (length es) ++ (positionsWritten es ++ columns-left))
   four = number-next s _ (nextOf (thirdNumber s)) (sh .l) (omega (arith, good .length-most)) (three .rest)
 
-  five : Next s (nextOf (fourthNumber s)) (length es) (positions es ++ columns-left)
+  five : Next s (nextOf (fourthNumber s)) (length es) (positionsWritten es ++ columns-left)
   five = number-next s _ (nextOf (fourthNumber s)) (length es) (omega (arith, few, good .data-most, good .parity-most)) (four .rest)
 
   read : Listed s (columns sh) (length es) 0 (nextOf (countNumber s)) es columns-left
   read = positions-read s (columns sh) 0 (nextOf (countNumber s)) es columns-left (omega (arith, good .data-most, good .parity-most)) ascending (five .rest)
 
   -- the same shape, and the same list
-  pub shape-back : sh ≡ shapeOf s
+  pub shape-back : sh ≡ shapeRead s
   shape-back =
       shape-is sh _ _ _ _ (sym (ap valueOf (one .value))) (sym (ap valueOf (two .value))) (sym (ap valueOf (three .value))) (sym (ap valueOf (four .value)))
 
   pub count-back : countOf s ≡ length es
   count-back = ap valueOf (five .value)
 
-  pub lost-back : lostOf s ≡ es
+  pub lost-back : lostListed s ≡ es
   lost-back = ap (λ (m : ℕ). positionsAt s m (nextOf (countNumber s))) count-back ∙ read .list
 
   pub columns-back : drop (columnsStart s) s ≡ columns-left
@@ -123,12 +123,12 @@ module _ (sh : Shape) (es xs : List ℕ) (lawful : stripeRefusal sh ≡ 0) (asce
   head-zero =
       sym (head-lawful s (ap numberRefusal (one .value)) (ap numberRefusal (two .value)) (ap numberRefusal (three .value)) (ap numberRefusal (four .value)) (ap stripeRefusal (sym shape-back) ∙ lawful))
 
-  wide : columns (shapeOf s) ≡ columns sh
+  wide : columns (shapeRead s) ≡ columns sh
   wide = ap (λ (v : Shape). columns v) (sym shape-back)
 
-  bytes : length s - columnsStart s ≡ (columns (shapeOf s) - countOf s) * shapeOf s .l
+  bytes : length s - columnsStart s ≡ (columns (shapeRead s) - countOf s) * shapeRead s .l
   bytes =
-      let k : kept es 0 (columns sh) ≡ columns (shapeOf s) - countOf s = omega (arith, few, wide, count-back) in
+      let k : kept es 0 (columns sh) ≡ columns (shapeRead s) - countOf s = omega (arith, few, wide, count-back) in
       sym (length-drop (columnsStart s) s) ∙ ap length columns-back ∙ survivors-bytes (sh .l) 0 (columns sh) es xs (omega (arith, exact))
       ∙ ap₂ (λ (n : ℕ) (v : Shape). n * v .l) k shape-back
 
@@ -136,14 +136,14 @@ module _ (sh : Shape) (es xs : List ℕ) (lawful : stripeRefusal sh ≡ 0) (asce
   pub accepted-back : contentRefusal s ≡ 0
   accepted-back =
       let p = ap₂ (λ (n m : ℕ). positionsRefusal s n m 0 (nextOf (countNumber s))) wide count-back ∙ read .lawful in
-      let f : countOf s ≤ columns (shapeOf s) = omega (arith, few, wide, count-back) in
-      let c = columns-exact (length s - columnsStart s) ((columns (shapeOf s) - countOf s) * shapeOf s .l) (omega (arith, bytes)) (omega (arith, bytes)) in
-      sym (content-rest s head-zero) ∙ sym (rest-columns s (shapeOf s) (countNumber s) (ap numberRefusal (five .value)) f p 0 c)
+      let f : countOf s ≤ columns (shapeRead s) = omega (arith, few, wide, count-back) in
+      let c = columns-exact (length s - columnsStart s) ((columns (shapeRead s) - countOf s) * shapeRead s .l) (omega (arith, bytes)) (omega (arith, bytes)) in
+      sym (content-rest s head-zero) ∙ sym (rest-columns s (shapeRead s) (countNumber s) (ap numberRefusal (five .value)) f p 0 c)
 
   -- the buffer is filled from the columns that survived
   pub filled-back : (ys : List ℕ) → columnsFilled s ys ≡ restored (sh .l) es 0 (columns sh) columns-left ys
   filled-back ys =
-      ap (λ (v : Shape). restored (v .l) (lostOf s) 0 (columns v) (drop (columnsStart s) s) ys) (sym shape-back)
+      ap (λ (v : Shape). restored (v .l) (lostListed s) 0 (columns v) (drop (columnsStart s) s) ys) (sym shape-back)
       ∙ ap₂ (λ (z u : List ℕ). restored (sh .l) z 0 (columns sh) u ys) lost-back columns-back
 
 -- ---- the surviving bytes
@@ -241,16 +241,16 @@ accepts bs w = ap contentRefusal (w .bytes) ∙ accepted-back (w .shape) (w .los
 pub accepts-no-other : (bs : List ℕ) → Bytes bs → contentRefusal bs ≡ 0 → LaidOut bs
 accepts-no-other bs h e =
     let w = accepted bs e in
-    let room : List ℕ = replicate (stripeLength (shapeOf bs)) 0 in
-    let long : length room ≡ stripeLength (shapeOf bs) = length-replicate (stripeLength (shapeOf bs)) 0 in
+    let room : List ℕ = replicate (stripeLength (shapeRead bs)) 0 in
+    let long : length room ≡ stripeLength (shapeRead bs) = length-replicate (stripeLength (shapeRead bs)) 0 in
     record {
-      shape = shapeOf bs;
-      lost = lostOf bs;
+      shape = shapeRead bs;
+      lost = lostListed bs;
       stripe = columnsFilled bs room;
-      allowed = stripe-shaped (shapeOf bs) (head-described bs (w .head-read));
+      allowed = stripe-shaped (shapeRead bs) (head-described bs (w .head-read));
       short = w .stripe-short;
       ascending = w .ascending;
       exact =
-          restored-length (shapeOf bs .l) 0 (columns (shapeOf bs)) (lostOf bs) (drop (columnsStart bs) bs) room (omega (arith, long)) (omega (arith, columns-enough bs w)) ∙ long;
+          restored-length (shapeRead bs .l) 0 (columns (shapeRead bs)) (lostListed bs) (drop (columnsStart bs) bs) room (omega (arith, long)) (omega (arith, columns-enough bs w)) ∙ long;
       bytes = accepts-only bs room h e (omega (arith, long));
     }

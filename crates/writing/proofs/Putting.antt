@@ -17,7 +17,7 @@ use Rattle.stripe.specs.Stripe.{among, Ascending}
 use Rattle.stripe.proofs.Allowed.{Allowed}
 use Rattle.writing.specs.declared.Written.{Written}
 use Rattle.number.specs.Number.{written}
-use Rattle.record.specs.Layout.{positions, survivors, kept, recordHead, recordOf}
+use Rattle.record.specs.Layout.{positionsWritten, survivors, kept, recordHead, recordOf}
 use Rattle.record.specs.Reading.{unless, stripeRefusal}
 use Rattle.writing.specs.Writing.{ascends, writeRefusal, writtenOf, outWritten}
 use Rattle.number.proofs.Written.{drop-next, groups-most}
@@ -62,32 +62,32 @@ ascending-ascends a n (x ∷ es) h = rw (le-leb a x (h .0), lt-ltb x n (h .1)) (
 
 -- ---- positions written
 
-pub positions-here : (xs : List ℕ) (i : ℕ) → i < length xs → positions (drop i xs) ≡ written (getD xs i 0) ++ positions (drop (i + 1) xs)
-unfolding positions
-positions-here xs i h = ap positions (drop-next xs i h)
+pub positions-here : (xs : List ℕ) (i : ℕ) → i < length xs → positionsWritten (drop i xs) ≡ written (getD xs i 0) ++ positionsWritten (drop (i + 1) xs)
+unfolding positionsWritten
+positions-here xs i h = ap positionsWritten (drop-next xs i h)
 
-pub positions-end : (xs : List ℕ) (i : ℕ) → length xs ≤ i → positions (drop i xs) ≡ []
-unfolding positions
-positions-end xs i h = ap positions (drop-of-length-le xs h)
+pub positions-end : (xs : List ℕ) (i : ℕ) → length xs ≤ i → positionsWritten (drop i xs) ≡ []
+unfolding positionsWritten
+positions-end xs i h = ap positionsWritten (drop-of-length-le xs h)
 
-pub positions-bytes : (xs : List ℕ) (i : ℕ) → i < length xs → length (positions (drop i xs)) ≡ length (written (getD xs i 0)) + length (positions (drop (i + 1) xs))
-positions-bytes xs i h = ap length (positions-here xs i h) ∙ length-append (written (getD xs i 0)) (positions (drop (i + 1) xs))
+pub positions-bytes : (xs : List ℕ) (i : ℕ) → i < length xs → length (positionsWritten (drop i xs)) ≡ length (written (getD xs i 0)) + length (positionsWritten (drop (i + 1) xs))
+positions-bytes xs i h = ap length (positions-here xs i h) ∙ length-append (written (getD xs i 0)) (positionsWritten (drop (i + 1) xs))
 
-pub positions-most : (xs : List ℕ) → length (positions xs) ≤ 5 * length xs
-unfolding positions
+pub positions-most : (xs : List ℕ) → length (positionsWritten xs) ≤ 5 * length xs
+unfolding positionsWritten
 positions-most [] = omega arith
-positions-most (x ∷ xs) = omega (arith, length-append (written x) (positions xs), groups-most 5 x, positions-most xs)
+positions-most (x ∷ xs) = omega (arith, length-append (written x) (positionsWritten xs), groups-most 5 x, positions-most xs)
 
 pub positions-turn : (out out′ xs : List ℕ) (at i : ℕ) → i < length xs → out′ ≡ sets out at (written (getD xs i 0))
-    → sets out′ (at + length (written (getD xs i 0))) (positions (drop (i + 1) xs)) ≡ sets out at (positions (drop i xs))
+    → sets out′ (at + length (written (getD xs i 0))) (positionsWritten (drop (i + 1) xs)) ≡ sets out at (positionsWritten (drop i xs))
 positions-turn out out′ xs at i h e =
-    ap (λ (o : List ℕ). sets o (at + length (written (getD xs i 0))) (positions (drop (i + 1) xs))) e
-    ∙ sets-append (written (getD xs i 0)) (positions (drop (i + 1) xs)) out at ∙ ap (sets out at) (sym (positions-here xs i h))
+    ap (λ (o : List ℕ). sets o (at + length (written (getD xs i 0))) (positionsWritten (drop (i + 1) xs))) e
+    ∙ sets-append (written (getD xs i 0)) (positionsWritten (drop (i + 1) xs)) out at ∙ ap (sets out at) (sym (positions-here xs i h))
 
 -- ---- how long a record is
 
 pub head-bytes : (s : Shape) (es : List ℕ)
-    → length (recordHead s es) ≡ length (written (s .k)) + length (written (s .r)) + length (written (s .t)) + length (written (s .l)) + length (written (length es)) + length (positions es)
+    → length (recordHead s es) ≡ length (written (s .k)) + length (written (s .r)) + length (written (s .t)) + length (written (s .l)) + length (written (length es)) + length (positionsWritten es)
 unfolding recordHead
 head-bytes s es = simp length-append (omega arith)
 
@@ -132,7 +132,7 @@ pub put-then : (out out′ xs ys : List ℕ) (at at′ : ℕ) → out′ ≡ set
 put-then out out′ xs ys at at′ e p =
     ap₂ (λ (o : List ℕ) (n : ℕ). sets o n ys) e p ∙ sets-append xs ys out at
 
-pub head-is : (s : Shape) (es : List ℕ) → written (s .k) ++ (written (s .r) ++ (written (s .t) ++ (written (s .l) ++ (written (length es) ++ positions es)))) ≡ recordHead s es
+pub head-is : (s : Shape) (es : List ℕ) → written (s .k) ++ (written (s .r) ++ (written (s .t) ++ (written (s .l) ++ (written (length es) ++ positionsWritten es)))) ≡ recordHead s es
 unfolding recordHead
 head-is s es = refl
 
@@ -142,12 +142,12 @@ pub head-put : (s : Shape) (es o o1 o2 o3 o4 o5 o6 : List ℕ) (a1 a2 a3 a4 a5 :
     → a3 ≡ a2 + length (written (s .t)) → o3 ≡ sets o2 a2 (written (s .t))
     → a4 ≡ a3 + length (written (s .l)) → o4 ≡ sets o3 a3 (written (s .l))
     → a5 ≡ a4 + length (written (length es)) → o5 ≡ sets o4 a4 (written (length es))
-    → o6 ≡ sets o5 a5 (positions es) → o6 ≡ sets o 0 (recordHead s es)
+    → o6 ≡ sets o5 a5 (positionsWritten es) → o6 ≡ sets o 0 (recordHead s es)
 head-put s es o o1 o2 o3 o4 o5 o6 a1 a2 a3 a4 a5 e1 q1 e2 q2 e3 q3 e4 q4 e5 q5 q6 =
-    let m = written (length es) ++ positions es in
+    let m = written (length es) ++ positionsWritten es in
     let l = written (s .l) ++ m in
     let t = written (s .t) ++ l in
-    q6 ∙ put-then o4 o5 (written (length es)) (positions es) a4 a5 q5 e5 ∙ put-then o3 o4 (written (s .l)) m a3 a4 q4 e4
+    q6 ∙ put-then o4 o5 (written (length es)) (positionsWritten es) a4 a5 q5 e5 ∙ put-then o3 o4 (written (s .l)) m a3 a4 q4 e4
     ∙ put-then o2 o3 (written (s .t)) l a2 a3 q3 e3 ∙ put-then o1 o2 (written (s .r)) t a1 a2 q2 e2
     ∙ put-then o o1 (written (s .k)) (written (s .r) ++ t) 0 a1 q1 e1 ∙ ap (sets o 0) (head-is s es)
 

@@ -12,7 +12,7 @@ ghost use Prim.Native.Nat.{_+_, _≤_};
 ghost use lib.ListN.{length};
 ghost use lib.Seq.{sets};
 ghost use Rattle.number.specs.Number.{written};
-ghost use Rattle.record.specs.Layout.{positions, recordHead, recordOf};
+ghost use Rattle.record.specs.Layout.{positionsWritten, recordHead, recordOf};
 ghost use Rattle.record.specs.Reading.{stripeRefusal};
 ghost use Rattle.writing.specs.Writing.{ascends, writeRefusal, writtenOf, outWritten};
 
@@ -45,7 +45,7 @@ fn ascends_below(lost: &[u16], n: usize) -> bool
 // How many bytes the positions take.
 fn positions_length(lost: &[u16]) -> usize
     requires { ⌜ length (now lost) ≤ 258 ⌝ }
-    ensures { λ r. ⌜ r ≡ length (positions (now (lost .entry))) ⌝ }
+    ensures { λ r. ⌜ r ≡ length (positionsWritten (now (lost .entry))) ⌝ }
 {
     let mut total = 0;
     let mut i = 0;
@@ -113,9 +113,9 @@ fn put_number(value: u32, out: &mut [u8], at: usize) -> usize
 
 // Writes the positions at a place, and answers the place after them.
 fn put_positions(lost: &[u16], out: &mut [u8], first: usize) -> usize
-    requires { ⌜ first + length (positions (now lost)) ≤ length (now out) ⌝ }
-    ensures { λ r. ⌜ r ≡ first + length (positions (now (lost .entry))) ⌝ }
-    ensures { λ _. ⌜ now (out .exit) ≡ sets (now (out .entry)) first (positions (now (lost .entry))) ⌝ }
+    requires { ⌜ first + length (positionsWritten (now lost)) ≤ length (now out) ⌝ }
+    ensures { λ r. ⌜ r ≡ first + length (positionsWritten (now (lost .entry))) ⌝ }
+    ensures { λ _. ⌜ now (out .exit) ≡ sets (now (out .entry)) first (positionsWritten (now (lost .entry))) ⌝ }
 {
     let mut at = first;
     let mut i = 0;

@@ -57,10 +57,10 @@ use Rattle.plan.specs.Plan.{plan, spanAt}
 use Rattle.plan.proofs.Span as T
 use Rattle.plan.proofs.Span.Laws as T′
 use Rattle.shelf.specs.Shelf.{shapeOf, spansAnswer}
-use Rattle.shelf.specs.declared.Answer.{Answer}
+use Rattle.shelf.specs.declared.SpansAnswer.{SpansAnswer}
 use Rattle.shelf.proofs.Stored.{front, length-front, front-more, front-done, written-room, written-plan}
-use Rattle.shelf.proofs.Answer as P
-use Rattle.shelf.proofs.Answer.Laws as P′
+use Rattle.shelf.proofs.SpansAnswer as P
+use Rattle.shelf.proofs.SpansAnswer.Laws as P′
 use Rattle.shelf.proofs.plan_span as at′
 use Rattle.shelf.proofs.plan_span.Symbol as at-def
 use Rattle.shelf.proofs.plan_span.Symbol.{name as #shelf·plan-span}
@@ -111,7 +111,7 @@ module _ {M : Type 1} (𝓤 : URA M) (H : Heap 𝓤) (A : Atoms 𝓤) (W : Given
   s = shapeOf k r t l
 
   -- the answer
-  abbrev pl : Answer
+  abbrev pl : SpansAnswer
   pl = spansAnswer s m f (length ys)
 
   -- the machine values
@@ -192,15 +192,15 @@ module _ {M : Type 1} (𝓤 : URA M) (H : Heap 𝓤) (A : Atoms 𝓤) (W : Given
       qed W (‵ ftrue ∷ []) ∵ owned ! usize (Is usize) (uint-makes 𝓤 H A W w64) (length ys) _ (refl, room .0) $ fjoin ! $ owned ! u64 (Is u64) (uint-makes 𝓤 H A W w64) f _ (refl, f-fits) $ fjoin ! $ owned ! u64 (Is u64) (uint-makes 𝓤 H A W w64) m _ (refl, m-fits) $ fjoin ! $ owned ! u64 (Is u64) (uint-makes 𝓤 H A W w64) l _ (refl, l-fits) $ fjoin ! $ owned ! u64 (Is u64) (uint-makes 𝓤 H A W w64) t _ (refl, t-fits) $ fjoin ! $ owned ! u64 (Is u64) (uint-makes 𝓤 H A W w64) r _ (refl, r-fits) $ fjoin ! $ owned ! u64 (Is u64) (uint-makes 𝓤 H A W w64) k _ (refl, k-fits) $ fjoin ! $
       nothing ! $ join ! $ frame ! $ done !
 
-  said-plan : (v : Answer) → ent 𝓤 (ensured 𝓤 H A plan′.ended (plan′.clauses 𝓤 H A mem run) tt (k, (r, (t, (l, (m, (f, (length ys, tt))))))) tt v) (fact 𝓤 (v ≡ pl))
+  said-plan : (v : SpansAnswer) → ent 𝓤 (ensured 𝓤 H A plan′.ended (plan′.clauses 𝓤 H A mem run) tt (k, (r, (t, (l, (m, (f, (length ys, tt))))))) tt v) (fact 𝓤 (v ≡ pl))
   said-plan v = exE 𝓤 _ (λ ws. snd∗ 𝓤 (sem 𝓤 H A (lasts plan′.ended tt (k, (r, (t, (l, (m, (f, (length ys, tt))))))) ws)) (fact 𝓤 (v ≡ pl)))
 
   -- a machine value of the answer is the one that lowering writes
-  told : (c : Answer) (v : Val) → Is A′ c (v ∷ []) → v ≡ P′.lowered c
+  told : (c : SpansAnswer) (v : Val) → Is A′ c (v ∷ []) → v ≡ P′.lowered c
   told c v is = ap only (LL.tells P.the-type P′.the-laws c (v ∷ []) is)
 
-  is-of : (c : Answer) (v : Val) → Is A′ c (v ∷ []) → c ≡ pl → Is A′ pl (plm ∷ [])
-  is-of c v is e = subst (λ (c′ : Answer). Is A′ c′ (P′.lowered c′ ∷ [])) e (subst (λ (w : Val). Is A′ c (w ∷ [])) (told c v is) is)
+  is-of : (c : SpansAnswer) (v : Val) → Is A′ c (v ∷ []) → c ≡ pl → Is A′ pl (plm ∷ [])
+  is-of c v is e = subst (λ (c′ : SpansAnswer). Is A′ c′ (P′.lowered c′ ∷ [])) e (subst (λ (w : Val). Is A′ c (w ∷ [])) (told c v is) is)
 
   module _ (𝓣 : Tables 𝓤 H) (known-at : Triple 𝓤 (𝓣 .C #shelf·plan-span) (At 𝓤 H A mem run)) (known-plan : Triple 𝓤 (𝓣 .C #shelf·spans-answer) (PlanOf 𝓤 H A mem run)) where
     abbrev fm : FmC 𝓤 H (W .laws) (𝓣 .C)
@@ -309,7 +309,7 @@ module _ {M : Type 1} (𝓤 : URA M) (H : Heap 𝓤) (A : Atoms 𝓤) (W : Given
           assigns ! (of-opd ! (load ! (from ! (fld ! refl (stop !))) (look-in ! 16 (sub ! 1 refl (whole !))))) (from ! (stop !)) (init ! 8 refl (tt, record { fits = room .0 })) $
           nothing ! $ use1 W (raw (PlanOf 𝓤 H A mem run .pre to-plan)) goes-plan $
           calls-at ! fm (PlanOf 𝓤 H A mem run) known-plan to-plan (and-then ! (load ! (from ! (stop !)) (look ! 29 refl)) (and-then ! (load ! (from ! (stop !)) (look ! 27 refl)) (and-then ! (load ! (from ! (stop !)) (look ! 25 refl)) (and-then ! (load ! (from ! (stop !)) (look ! 23 refl)) (and-then ! (load ! (from ! (stop !)) (look ! 21 refl)) (and-then ! (load ! (from ! (stop !)) (look ! 19 refl)) (and-then ! (load ! (from ! (stop !)) (look ! 9 refl)) (no-more !)))))))) (λ v.
-          use1 W (later (some (λ (y : Answer). (‵ ftrue ⊛ ‵ (A′ .own y (v ∷ []))) ⊛ raw (ensured 𝓤 H A plan′.ended (plan′.clauses 𝓤 H A mem run) tt (k, (r, (t, (l, (m, (f, (length ys, tt))))))) tt y)))) (id⊢ 𝓤 _) $ await ! tt $ pick ! (λ y.
+          use1 W (later (some (λ (y : SpansAnswer). (‵ ftrue ⊛ ‵ (A′ .own y (v ∷ []))) ⊛ raw (ensured 𝓤 H A plan′.ended (plan′.clauses 𝓤 H A mem run) tt (k, (r, (t, (l, (m, (f, (length ys, tt))))))) tt y)))) (id⊢ 𝓤 _) $ await ! tt $ pick ! (λ y.
           split ! $ move ! (1 ∷ []) $ use1 W (raw (fact 𝓤 (y ≡ pl))) (said-plan y) $ heard ! (y ≡ pl) (λ e. split ! $ drop ! $
           peeks ! A′ (Is A′) (shows 𝓤 H A A′) y (v ∷ []) (λ is. drop ! $
           land ! (from ! (stop !)) (init ! 14 refl (LL.lawful P.the-type P′.the-laws 𝓤 H A W .typed y _ is .0)) $

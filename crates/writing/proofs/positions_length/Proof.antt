@@ -5,13 +5,13 @@ use native.Mathlib.Omega.{arith}
 use lib.ListN.{length, drop}
 use borrow.Author.Needs.{needs}
 use denote.Ref.{now}
-use Rattle.record.specs.Layout.{positions}
+use Rattle.record.specs.Layout.{positionsWritten}
 use Rattle.writing.proofs.Putting.{positions-bytes, positions-end, positions-most}
 use Rattle.writing.proofs.positions_length.Statement.{statement}
 use Rattle.writing.proofs.positions_length.Tie as tie
 
 abbrev Inv-loop : tie.InvT-loop
-Inv-loop lost total₀ i₀ total i = total + length (positions (drop i lost)) ≡ length (positions lost)
+Inv-loop lost total₀ i₀ total i = total + length (positionsWritten (drop i lost)) ≡ length (positionsWritten lost)
 
 abbrev μ-loop : tie.MeasureT-loop
 μ-loop lost total₀ i₀ total i = length lost - i

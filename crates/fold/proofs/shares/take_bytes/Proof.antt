@@ -1,6 +1,6 @@
 -- `take_bytes` meets its contract: the first stripe is a copy, every other a weighted sum.
 use mathlib.Core.Path.{_∙_}
-use Rattle.fold.proofs.Stepped.{kept-none, kept-weighted}
+use Rattle.fold.proofs.Stepped.{stays-none, stays-weighted}
 use borrow.Author.Needs.{needs}
 use Rattle.fold.proofs.shares.take_bytes.Statement.{statement}
 use Rattle.fold.proofs.shares.take_bytes.Tie as tie
@@ -24,7 +24,7 @@ same-length : tie.Need-same-length
 same-length c = search needs
 
 returns : tie.Need-returns
-returns c = c .before .before .copy .ensures ∙ kept-none _ _ _ _ (search needs)
+returns c = c .before .before .copy .ensures ∙ stays-none _ _ _ _ (search needs)
 
 weighted-requires : tie.Need-weighted-requires
 weighted-requires c κs = search needs
@@ -33,7 +33,7 @@ same-length-2 : tie.Need-same-length-2
 same-length-2 c = search needs
 
 returns-2 : tie.Need-returns-2
-returns-2 c = c .before .before .weighted .ensures ∙ kept-weighted _ _ _ _ (search needs)
+returns-2 c = c .before .before .weighted .ensures ∙ stays-weighted _ _ _ _ (search needs)
 
 pub take-bytes-spec : {M : Type 1} → statement M
 take-bytes-spec =

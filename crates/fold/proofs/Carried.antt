@@ -22,6 +22,7 @@ use Rattle.plan.specs.declared.Kind.the-variants.{A, B, C}
 use Rattle.plan.specs.Plan.{kindOf}
 use Rattle.fold.specs.Fold.{runBytes, partBytes, readParity, readRow, runShare, share, readOf, disagreement, runCarried, carried}
 use Rattle.plan.proofs.Foldable.{IsA, IsB, IsC, runs-whole, run-pos}
+use Rattle.fold.proofs.Laws.{share-a, share-b, share-c}
 use Rattle.fold.proofs.Cut.{a-at, b-data-at, b-parity-at, c-at}
 
 -- bytes read across columns of other lengths
@@ -47,17 +48,18 @@ module _ (s : Shape) (zs : List ℕ) (a : Allowed s) (long : length zs ≡ strip
 
   -- kind A
   a-share : (f j p : ℕ) → IsA s f → j < f → p < s .l → share A s (readOf A s f zs) j p ≡ rowAt s ds j p ⊕ carried A s zs j p
-  unfolding share carried disagreement
+  unfolding carried disagreement
   a-share f j p h hj hp =
-      a-at s zs long f (h .enough) j p hj hp
+      share-a s (readOf A s f zs) j p ∙ a-at s zs long f (h .enough) j p hj hp
       ∙ apart (getD zs ((s .k + j) * s .l + p) 0) (rowAt s ds j p)
       ∙ ap (λ (x : ℕ). rowAt s ds j p ⊕ (getD zs ((s .k + j) * s .l + p) 0 ⊕ x)) (sym (plain-parity s ds j p a (h .plain) hp))
 
   -- kind C
   c-share : (f j p : ℕ) → p < s .l → share C s (readOf C s f zs) j p ≡ rowAt s ds j p ⊕ carried C s zs j p
-  unfolding share carried
+  unfolding carried
   c-share f j p hp =
-      ap (row j) (across-same (readOf C s f zs) zs (s .l) p (s .l) p (s .k) (λ i k. c-at s zs long f i p k hp))
+      share-c s (readOf C s f zs) j p
+      ∙ ap (row j) (across-same (readOf C s f zs) zs (s .l) p (s .l) p (s .k) (λ i k. c-at s zs long f i p k hp))
       ∙ sym (row-at-stripe s zs j p hp) ∙ sym (add-zero (rowAt s ds j p))
 
   -- kind B
@@ -123,9 +125,10 @@ module _ (s : Shape) (zs : List ℕ) (a : Allowed s) (long : length zs ≡ strip
         go (inr gb) w = simp (le-ltb b (s .r) gb) (row-read j b e gb hb he ∙ sym (add-zero (rowAt s ds j (b * q + e))))
 
     b-share : (j p : ℕ) → j < s .t → p < s .l → share B s (readOf B s f zs) j p ≡ rowAt s ds j p ⊕ carried B s zs j p
-    unfolding share carried
+    unfolding carried
     b-share j p hj hp =
-        run-share j (p / q) (p % q) hj (place-column-lt p (s .t) q (subst (λ (x : ℕ). p < x) (sym whole) hp)) (mod-lt p (run-pos s a h))
+        share-b s (readOf B s f zs) j p
+        ∙ run-share j (p / q) (p % q) hj (place-column-lt p (s .t) q (subst (λ (x : ℕ). p < x) (sym whole) hp)) (mod-lt p (run-pos s a h))
         ∙ ap (λ (x : ℕ). rowAt s ds j x ⊕ runCarried s zs j (p / q) (p % q)) (place-split p q)
 
   -- all kinds

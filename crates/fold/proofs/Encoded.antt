@@ -23,7 +23,8 @@ use Rattle.plan.proofs.Costs.{bytes-read}
 use Rattle.fold.proofs.Cut.{joined-parts}
 use Rattle.fold.proofs.Sums.{all-read}
 use Rattle.fold.proofs.Summing.{parts-count}
-use Rattle.fold.proofs.Wide.{fold-length, fold-at, wide-parity}
+use Rattle.fold.proofs.Wide.{wide-parity}
+use Rattle.fold.proofs.Laws.{fold-length, fold-at}
 
 parts-each : (m n : ℕ) (xs : List ℕ) → length xs ≡ n * m → (i : ℕ) → i < length (parts m n xs) → length (getD (parts m n xs) i []) ≡ m
 unfolding parts

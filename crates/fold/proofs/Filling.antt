@@ -27,6 +27,7 @@ use Rattle.plan.proofs.Counted.{runs-sum}
 use Rattle.fold.specs.declared.shares.Share.{Share}
 use Rattle.fold.specs.declared.shares.Share.the-variants.{Read, Row, Both}
 use Rattle.fold.specs.Fold.{runBytes, partBytes, readParity, readRow, runShare, share}
+use Rattle.fold.proofs.Laws.{share-a, share-b}
 use Rattle.fold.specs.Shares.{ReadsParity, IsRows, shareAt, Within, stays, Summed, shareOf, taken}
 
 -- a fold that reads parity is of kind A or B
@@ -62,10 +63,11 @@ module _ (s : Shape) (f j b : ℕ) (plain : s .t ≡ 0) where
       (subst (λ (q : ℕ). j * s .l + q ≤ f * s .l) (sym (plain-run-length s plain)) (column-inside j f (s .l) hj))
 
   a-same : (xs rs : List ℕ) (e : ℕ) → b < runs s → shareAt (shareOf s j b) xs rs e ≡ share A s xs j (b * runLength s + e)
-  unfolding share shareAt
+  unfolding shareAt
   a-same xs rs e hb =
       ap (λ (σ : Share). shareAt σ xs rs e) a-share
       ∙ ap (λ (p : ℕ). getD xs (j * s .l + p) 0) (sym (ap (λ (x : ℕ). x * runLength s + e) none ∙ omega arith))
+      ∙ sym (share-a s xs j (b * runLength s + e))
     where
       none : b ≡ 0
       none = omega (arith, plain-runs s plain)
@@ -149,10 +151,10 @@ module _ (s : Shape) (f j b : ℕ) (a : Allowed s) (h : Prepared s) (marked : s 
             ap (λ (σ : Share). shareAt σ xs rs e) (from-parity gb) ∙ simp (le-ltb b (s .r) gb) (row-stored j b hj gb bt)
 
     b-same : shareAt (shareOf s j b) xs rs e ≡ share B s xs j (b * runLength s + e)
-    unfolding share
     b-same =
         run-same
-        ∙ sym (ap₂ (runShare s xs j) (ap (λ (x : ℕ). (b * x + e) / runBytes s) q-is ∙ place-column b he′) (ap (λ (x : ℕ). (b * x + e) % runBytes s) q-is ∙ place-byte b he′))
+        ∙ sym (share-b s xs j (b * runLength s + e)
+        ∙ ap₂ (runShare s xs j) (ap (λ (x : ℕ). (b * x + e) / runBytes s) q-is ∙ place-column b he′) (ap (λ (x : ℕ). (b * x + e) % runBytes s) q-is ∙ place-byte b he′))
 
 -- ---- both kinds
 

@@ -24,7 +24,8 @@ use Rattle.plan.specs.declared.Kind.{Kind}
 use Rattle.plan.specs.Plan.{kindOf, foldRefusal, plan, wideShape}
 use Rattle.fold.specs.Fold.{runBytes, foldOf, joined, wideData, cutOut, wideStripe, disagreement, parityNamed, runCarried, carried}
 use Rattle.plan.proofs.Foldable.{IsA, IsB, IsC, Foldable, foldable, runs-whole, run-pos}
-use Rattle.fold.proofs.Wide.{fold-length, fold-bytes, answer-is, wide-data, wide-answer, wide-data-length, disagreement-sum}
+use Rattle.fold.proofs.Laws.{fold-length, fold-bytes}
+use Rattle.fold.proofs.Wide.{answer-is, wide-data, wide-answer, wide-data-length, disagreement-sum}
 use Rattle.fold.proofs.Sums.{map-none, map-one}
 
 pub codeword-agrees : (s : Shape) (zs : List ℕ) (i p : ℕ) → Codeword s zs → i < s .r → p < s .l → disagreement s zs i p ≡ 0

@@ -1,46 +1,31 @@
 -- Stripes are taken in from the last to the first, by Horner's rule: each multiplies what is there by its weight and adds its share.
 use mathlib.Core.Path.{_≡_, refl, sym, ap, ap₂, _∙_, subst}
-use mathlib.Core.Bool.{Bool, true, false, cond}
+use mathlib.Core.Bool.{Bool, true, false}
 use mathlib.Core.List.{List, [], _∷_}
 use mathlib.Core.Logic.{_⊎_, inl, inr}
 use Prim.Native.Nat.{ℕ, zero, suc, _+_, _-_, _*_, _/_, _%_, _<_, _≤_}
 use native.Mathlib.Nat.{mul-div-cancel-left, zero-mul, not-suc-le-zero, le-of-suc-le-suc}
 use native.Mathlib.Omega.{arith}
 use native.Mathlib.Numerals.{add-one}
-use lib.Dec.{ltb, eqb}
+use lib.Dec.{eqb}
 use lib.ListN.{length, getD, take, drop, drop-of-length-le}
 use lib.Seq.{ext-getD, drop-drop}
 use borrow.Author.Tests.{eq-eqb, ne-eqb}
 use Rattle.field.specs.Field.{_⊕_, _⊗_, gpow}
 use Rattle.field.specs.Bytes.{Bytes}
-use Rattle.field.proofs.Xor.{zero-add, add-zero, add-comm, add-lt}
+use Rattle.field.proofs.Xor.{zero-add, add-zero, add-comm}
 use Rattle.field.proofs.Mul.{mul-zero}
 use Rattle.field.proofs.Bytes.{tabulate-length, tabulate-at, take-bytes, drop-bytes}
-use Rattle.field.proofs.Rows.{row-nil, row-cons, row-lt}
 use Rattle.field.proofs.Cases.{below-or-from}
 use Rattle.lanes.proofs.Parts.{part-length}
 use Rattle.stripe.specs.declared.Shape.{Shape}
 use Rattle.stripe.proofs.Lent.{within}
-use Rattle.plan.specs.declared.Kind.{Kind}
-use Rattle.plan.specs.declared.Kind.the-variants.{A, B, C}
 use Rattle.plan.specs.Plan.{foldRefusal, kindOf, bytesEach, bytesRead}
 use Rattle.plan.proofs.Foldable.{foldable}
 use Rattle.plan.proofs.Costs.{bytes-read}
-use Rattle.fold.specs.Fold.{readParity, readRow, runShare, share, foldByte, foldStripes, parts, foldOf}
+use Rattle.fold.specs.Fold.{share, foldByte, foldStripes, parts, foldOf}
 use Rattle.fold.specs.Shares.{stays, taken}
-
--- ---- a share is a byte
-
-choice-lt : (b : Bool) (x y : ℕ) → x < 256 → y < 256 → cond b x y < 256
-choice-lt true x y hx hy = hx
-choice-lt false x y hx hy = hy
-
-pub share-lt : (κ : Kind) (s : Shape) (xs : List ℕ) (j p : ℕ) → Bytes xs → share κ s xs j p < 256
-unfolding share runShare readParity readRow
-share-lt A s xs j p h = h (j * s .l + p)
-share-lt B s xs j p h =
-    choice-lt (ltb _ (s .r)) _ _ (choice-lt (ltb j (s .r)) _ _ (h _) (add-lt 8 _ _ (h _) (row-lt _ _))) (row-lt j _)
-share-lt C s xs j p h = row-lt j _
+use Rattle.fold.proofs.Laws.{fold-none, fold-cons, stripes-length, stripes-place, fold-is}
 
 -- ---- one stripe more
 
@@ -49,21 +34,12 @@ module _ (s : Shape) (f : ℕ) (xs : List ℕ) (bytes : Bytes xs) where
       → ((i : ℕ) → i < f * s .l
       → stays first (i / s .l * s .k) (getD ys i 0) ⊕ share (kindOf s f) s xs (i / s .l) (i % s .l) ≡ foldByte (kindOf s f) s (xs ∷ xss) (i / s .l) (i % s .l))
       → taken s f first xs ys ≡ foldStripes s f (xs ∷ xss)
-  unfolding taken foldStripes
+  unfolding taken
   by-places first ys xss h =
-      ext-getD 0 (taken s f first xs ys) (foldStripes s f (xs ∷ xss)) (tabulate-length (f * s .l) _ ∙ sym (tabulate-length (f * s .l) _))
+      ext-getD 0 (taken s f first xs ys) (foldStripes s f (xs ∷ xss)) (tabulate-length (f * s .l) _ ∙ sym (stripes-length s f (xs ∷ xss)))
       (λ i l.
       let k : i < f * s .l = subst (λ (x : ℕ). i < x) (tabulate-length (f * s .l) _) l in
-      tabulate-at (f * s .l) _ i k ∙ h i k ∙ sym (tabulate-at (f * s .l) _ i k))
-
-  byte-is : (xss : List (List ℕ)) (j p : ℕ)
-      → foldByte (kindOf s f) s (xs ∷ xss) j p ≡ share (kindOf s f) s xs j p ⊕ gpow (j * s .k) ⊗ foldByte (kindOf s f) s xss j p
-  unfolding foldByte
-  byte-is xss j p = row-cons (j * s .k) (share (kindOf s f) s xs j p) _ (share-lt (kindOf s f) s xs j p bytes)
-
-  no-byte : (j p : ℕ) → foldByte (kindOf s f) s [] j p ≡ 0
-  unfolding foldByte
-  no-byte j p = row-nil (j * s .k)
+      tabulate-at (f * s .l) _ i k ∙ h i k ∙ sym (stripes-place s f (xs ∷ xss) i k))
 
   -- the first stripe that is taken in
   pub taken-first : (ys : List ℕ) → taken s f true xs ys ≡ foldStripes s f (xs ∷ [])
@@ -72,18 +48,18 @@ module _ (s : Shape) (f : ℕ) (xs : List ℕ) (bytes : Bytes xs) where
       by-places true ys []
       (λ i h.
       zero-add _
-      ∙ sym (byte-is [] (i / s .l) (i % s .l)
-      ∙ ap (λ (v : ℕ). share (kindOf s f) s xs (i / s .l) (i % s .l) ⊕ gpow (i / s .l * s .k) ⊗ v) (no-byte (i / s .l) (i % s .l))
+      ∙ sym (fold-cons (kindOf s f) s xs [] (i / s .l) (i % s .l) bytes
+      ∙ ap (λ (v : ℕ). share (kindOf s f) s xs (i / s .l) (i % s .l) ⊕ gpow (i / s .l * s .k) ⊗ v) (fold-none (kindOf s f) s (i / s .l) (i % s .l))
       ∙ ap (λ (v : ℕ). share (kindOf s f) s xs (i / s .l) (i % s .l) ⊕ v) (mul-zero _) ∙ add-zero _))
 
   -- a stripe before those that were taken in
   pub taken-next : (xss : List (List ℕ)) → taken s f false xs (foldStripes s f xss) ≡ foldStripes s f (xs ∷ xss)
-  unfolding stays foldStripes
+  unfolding stays
   taken-next xss =
       by-places false (foldStripes s f xss) xss
       (λ i h.
-      ap (λ (v : ℕ). gpow (i / s .l * s .k) ⊗ v ⊕ share (kindOf s f) s xs (i / s .l) (i % s .l)) (tabulate-at (f * s .l) _ i h)
-      ∙ add-comm _ _ ∙ sym (byte-is xss (i / s .l) (i % s .l)))
+      ap (λ (v : ℕ). gpow (i / s .l * s .k) ⊗ v ⊕ share (kindOf s f) s xs (i / s .l) (i % s .l)) (stripes-place s f xss i h)
+      ∙ add-comm _ _ ∙ sym (fold-cons (kindOf s f) s xs xss (i / s .l) (i % s .l) bytes))
 
 -- ---- the stripes within the bytes read
 
@@ -159,5 +135,4 @@ module _ (s : Shape) (n f : ℕ) (d : List ℕ) (passed : foldRefusal s n f ≡ 
   each-part l h = part-length d (l * each) each (each-fits l h) ∙ each-is
 
   pub all-taken : (ys : List ℕ) → ys ≡ foldStripes s f (parts each n d) → ys ≡ foldOf s n f d
-  unfolding foldOf
-  all-taken ys e = e ∙ ap (λ (m : ℕ). foldStripes s f (parts m n d)) each-is
+  all-taken ys e = e ∙ ap (λ (m : ℕ). foldStripes s f (parts m n d)) each-is ∙ sym (fold-is s n f d)

@@ -1,6 +1,7 @@
--- Sums over stripes: row j*k over stripes of rows j of k bytes each is row j of all those bytes, and a sum over stripes splits anywhere.
+-- Sums over stripes: what is added is added for each stripe by itself, and row j*k over stripes of rows j of k bytes each is row j of all those
+-- bytes.
 use mathlib.Core.Path.{_≡_, refl, sym, ap, ap₂, _∙_, subst}
-use mathlib.Core.List.{List, [], _∷_, _++_, map, map-append}
+use mathlib.Core.List.{List, [], _∷_, _++_, map}
 use mathlib.Core.Logic.{_⊎_, inl, inr}
 use Prim.Native.Nat.{ℕ, zero, suc, _+_, _-_, _*_, _<_, _≤_}
 use native.Mathlib.Nat.{zero-mul, mul-comm, suc-mul, add-comm as ℕ-add-comm, not-suc-le-zero, le-of-suc-le-suc}
@@ -17,22 +18,10 @@ use Rattle.field.proofs.Cases.{below-or-from}
 use Rattle.stripe.specs.declared.Shape.{Shape}
 use Rattle.stripe.specs.Stripe.{across}
 use Rattle.stripe.proofs.Places.{across-length, across-first, place-lt}
-use Rattle.plan.specs.declared.Kind.{Kind}
 use Rattle.plan.specs.declared.Kind.the-variants.{C}
-use Rattle.fold.specs.Fold.{share, foldByte, joined}
+use Rattle.fold.specs.Fold.{foldByte, joined}
+use Rattle.fold.proofs.Laws.{share-c, fold-sum}
 use Rattle.fold.proofs.Cut.{at-front, at-rest}
-
--- ---- two sittings
-
--- the sum over stripes xss, then yss: the weights of the latter are shifted by the number of the former
-pub fold-append : (κ : Kind) (s : Shape) (xss yss : List (List ℕ)) (j p : ℕ)
-    → foldByte κ s (xss ++ yss) j p ≡ foldByte κ s xss j p ⊕ gpow (length xss * (j * s .k)) ⊗ foldByte κ s yss j p
-unfolding foldByte
-fold-append κ s xss yss j p =
-    ap (row (j * s .k)) (map-append (λ (xs : List ℕ). share κ s xs j p) xss yss)
-    ∙ row-parts (j * s .k) (map (λ xs. share κ s xs j p) xss) (map (λ xs. share κ s xs j p) yss)
-    ∙ ap (λ (n : ℕ). row (j * s .k) (map (λ xs. share κ s xs j p) xss) ⊕ gpow (n * (j * s .k)) ⊗ row (j * s .k) (map (λ xs. share κ s xs j p) yss))
-    (length-map xss (λ xs. share κ s xs j p))
 
 -- ---- sums of what each stripe adds
 
@@ -121,5 +110,6 @@ rows-joined j k l p (xs ∷ xss) hp h =
 -- kind C: wide row j is the row of all data read
 pub all-read : (s : Shape) (xss : List (List ℕ)) (j p : ℕ) → p < s .l → ((i : ℕ) → i < length xss → length (getD xss i []) ≡ s .k * s .l)
     → foldByte C s xss j p ≡ row j (across (joined xss) (s .l) p 0 (length xss * s .k))
-unfolding foldByte share
-all-read s xss j p hp h = rows-joined j (s .k) (s .l) p xss hp h
+all-read s xss j p hp h =
+    fold-sum C s xss j p ∙ ap (λ (adds : List ℕ → ℕ). row (j * s .k) (map adds xss)) (λ i xs. share-c s xs j p i)
+    ∙ rows-joined j (s .k) (s .l) p xss hp h

@@ -8,40 +8,21 @@ use native.Mathlib.Omega.{arith}
 use lib.ListN.{length, getD, length-map}
 use lib.Seq.{take-at, drop-at}
 use Rattle.field.specs.Field.{_⊕_}
-use Rattle.field.specs.Bytes.{Bytes}
 use Rattle.field.specs.Row.{row}
 use Rattle.field.proofs.Xor.{sums}
-use Rattle.field.proofs.Bytes.{tabulate-length, tabulate-at, tabulate-bytes}
-use Rattle.field.proofs.Rows.{row-lt}
 use Rattle.stripe.specs.declared.Shape.{Shape}
 use Rattle.stripe.specs.Shape.{dataLength, stripeLength}
 use Rattle.stripe.specs.Stripe.{across, rowAt, runLength, parityByte, dataOf, parityOf}
 use Rattle.stripe.proofs.Allowed.{plain-run-length}
-use Rattle.stripe.proofs.Places.{place-lt, place-column, place-byte, parity-below, data-of-length}
+use Rattle.stripe.proofs.Places.{parity-below, data-of-length}
 use Rattle.plan.specs.declared.Kind.{Kind}
-use Rattle.plan.specs.Plan.{kindOf, foldRefusal, bytesEach, plan, wideShape}
-use Rattle.fold.specs.Fold.{share, foldByte, foldStripes, parts, foldOf, joined, wideData, cutOut, readOf, wideStripe, disagreement, carried}
+use Rattle.plan.specs.Plan.{kindOf, foldRefusal, plan, wideShape}
+use Rattle.fold.specs.Fold.{share, foldByte, foldOf, joined, wideData, cutOut, readOf, wideStripe, disagreement, carried}
 use Rattle.plan.proofs.Foldable.{Foldable, foldable}
+use Rattle.fold.proofs.Laws.{fold-sum, fold-at}
 use Rattle.fold.proofs.Cut.{at-rest, joined-length, cut-parts, getD-read}
 use Rattle.fold.proofs.Carried.{shared}
 use Rattle.fold.proofs.Sums.{map-sum, rows-joined}
-
--- ---- the fold's answer at its places
-
-pub fold-length : (s : Shape) (n f : ℕ) (xs : List ℕ) → length (foldOf s n f xs) ≡ f * s .l
-unfolding foldOf foldStripes
-fold-length s n f xs = tabulate-length (f * s .l) _
-
-pub fold-bytes : (s : Shape) (n f : ℕ) (xs : List ℕ) → Bytes (foldOf s n f xs)
-unfolding foldOf foldStripes foldByte
-fold-bytes s n f xs = tabulate-bytes (f * s .l) _ (λ i. row-lt (i / s .l * s .k) _)
-
-pub fold-at : (s : Shape) (n f : ℕ) (xs : List ℕ) (j p : ℕ) → j < f → p < s .l
-    → getD (foldOf s n f xs) (j * s .l + p) 0 ≡ foldByte (kindOf s f) s (parts (bytesEach (kindOf s f) s f) n xs) j p
-unfolding foldOf foldStripes
-fold-at s n f xs j p hj hp =
-    tabulate-at (f * s .l) _ (j * s .l + p) (place-lt hj hp)
-    ∙ ap₂ (foldByte (kindOf s f) s (parts (bytesEach (kindOf s f) s f) n xs)) (place-column j hp) (place-byte j hp)
 
 -- ---- the wide shape
 
@@ -91,10 +72,10 @@ module _ (s : Shape) (f : ℕ) (zss : List (List ℕ)) (passed : foldRefusal s (
 
   -- the answer is the sum over stripes of what each adds
   answer-at : (j p : ℕ) → j < f → p < s .l → getD answer (j * s .l + p) 0 ≡ row (j * s .k) (map (λ zs. share κ s (readOf κ s f zs) j p) zss)
-  unfolding foldByte
   answer-at j p hj hp =
       fold-at s (length zss) f (cutOut s zss (plan s (length zss) f)) j p hj hp
       ∙ ap (λ (xss : List (List ℕ)). foldByte κ s xss j p) (cut-parts s f zss passed long)
+      ∙ fold-sum κ s (map (readOf κ s f) zss) j p
       ∙ ap (row (j * s .k)) (map-map (λ xs. share κ s xs j p) (readOf κ s f) zss)
 
   -- the fold's answer, for all bytes: the parity of all data in order, and what the stripes carry on

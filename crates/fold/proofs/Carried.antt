@@ -15,13 +15,14 @@ use Rattle.field.proofs.Cases.{below-or-from}
 use Rattle.stripe.specs.declared.Shape.{Shape}
 use Rattle.stripe.specs.Shape.{stripeLength}
 use Rattle.stripe.specs.Stripe.{across, rowAt, runLength, dataOf}
-use Rattle.stripe.proofs.Allowed.{Allowed, Prepared, prepared-run-length}
+use Rattle.stripe.proofs.Allowed.{Allowed, Prepared}
 use Rattle.stripe.proofs.Places.{place-lt, place-column, place-byte, place-split, place-column-lt, across-length, across-first, row-at-stripe, parity-below, parity-from, plain-parity}
 use Rattle.plan.specs.declared.Kind.{Kind}
 use Rattle.plan.specs.declared.Kind.the-variants.{A, B, C}
 use Rattle.plan.specs.Plan.{kindOf}
-use Rattle.fold.specs.Fold.{runBytes, partBytes, readParity, readRow, runShare, share, readOf, disagreement, runCarried, carried}
-use Rattle.plan.proofs.Foldable.{IsA, IsB, IsC, runs-whole, run-pos}
+use Rattle.fold.specs.Fold.{partBytes, readParity, readRow, runShare, share, readOf, disagreement, runCarried, carried}
+use Rattle.plan.proofs.Foldable.{IsA, IsB, IsC}
+use Rattle.fold.proofs.Prepared.{run-whole}
 use Rattle.fold.proofs.Laws.{share-a, share-b, share-c}
 use Rattle.fold.proofs.Cut.{a-at, b-data-at, b-parity-at, c-at}
 
@@ -65,22 +66,19 @@ module _ (s : Shape) (zs : List ℕ) (a : Allowed s) (long : length zs ≡ strip
   -- kind B
   module _ (f : ℕ) (h : Prepared s) where
     abbrev q : ℕ
-    q = runBytes s
+    q = runLength s
 
     whole : s .t * q ≡ s .l
-    whole = runs-whole s a h
-
-    run-is : runLength s ≡ q
-    run-is = prepared-run-length s (let g = h .gains in omega arith)
+    whole = run-whole s h a
 
     place-in : (b e : ℕ) → b < s .t → e < q → b * q + e < s .l
     place-in b e hb he = subst (λ (x : ℕ). b * q + e < x) whole (place-lt hb he)
 
     run-of : (b e : ℕ) → e < q → (b * q + e) / runLength s ≡ b
-    run-of b e he = ap (λ (x : ℕ). (b * q + e) / x) run-is ∙ place-column b he
+    run-of b e he = place-column b he
 
     in-run : (b e : ℕ) → e < q → (b * q + e) % runLength s ≡ e
-    in-run b e he = ap (λ (x : ℕ). (b * q + e) % x) run-is ∙ place-byte b he
+    in-run b e he = place-byte b he
 
     -- the parity columns read
     parity-read : (i p : ℕ) → i < s .r → p < s .l → readParity s (readOf B s f zs) i p ≡ getD zs ((s .k + i) * s .l + p) 0
@@ -121,14 +119,14 @@ module _ (s : Shape) (zs : List ℕ) (a : Allowed s) (long : length zs ≡ strip
             ∙ ap (λ (x : ℕ). rowAt s ds j (b * q + e) ⊕ (getD zs ((s .k + b) * s .l + (j * q + e)) 0 ⊕ x))
             (sym (parity-from s ds b (j * q + e) (subst (λ (x : ℕ). s .r ≤ x) (sym (run-of j e he)) gj)
             ∙ ap₂ (λ (x y : ℕ). rowAt s ds b (j * q + e) ⊕ rowAt s ds x y) (run-of j e he)
-            (ap₂ (λ (x y : ℕ). b * x + y) run-is (in-run j e he)))))
+            (ap (λ (y : ℕ). b * q + y) (in-run j e he)))))
         go (inr gb) w = simp (le-ltb b (s .r) gb) (row-read j b e gb hb he ∙ sym (add-zero (rowAt s ds j (b * q + e))))
 
     b-share : (j p : ℕ) → j < s .t → p < s .l → share B s (readOf B s f zs) j p ≡ rowAt s ds j p ⊕ carried B s zs j p
     unfolding carried
     b-share j p hj hp =
         share-b s (readOf B s f zs) j p
-        ∙ run-share j (p / q) (p % q) hj (place-column-lt p (s .t) q (subst (λ (x : ℕ). p < x) (sym whole) hp)) (mod-lt p (run-pos s a h))
+        ∙ run-share j (p / q) (p % q) hj (place-column-lt p (s .t) q (subst (λ (x : ℕ). p < x) (sym whole) hp)) (mod-lt p (a .run-some))
         ∙ ap (λ (x : ℕ). rowAt s ds j x ⊕ runCarried s zs j (p / q) (p % q)) (place-split p q)
 
   -- all kinds

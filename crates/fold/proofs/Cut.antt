@@ -13,14 +13,16 @@ use lib.Seq.{getD-take, getD-drop, getD-append-add, getD-at, take-at, drop-at}
 use borrow.Author.Tests.{eq-eqb}
 use Rattle.stripe.specs.declared.Shape.{Shape}
 use Rattle.stripe.specs.Shape.{stripeLength}
+use Rattle.stripe.specs.Stripe.{runLength}
 use Rattle.stripe.proofs.Allowed.{Allowed, Prepared}
 use Rattle.stripe.proofs.Places.{place-lt}
 use Rattle.plan.specs.declared.Span.{Span}
 use Rattle.plan.specs.declared.Kind.{Kind}
 use Rattle.plan.specs.declared.Kind.the-variants.{A, B, C}
 use Rattle.plan.specs.Plan.{kindOf, foldRefusal, columnSpans, kindSpans, spansFrom, plan, bytesEach, bytesRead}
-use Rattle.fold.specs.Fold.{runBytes, partBytes, parts, joined, named, cutOut, readOf}
-use Rattle.plan.proofs.Foldable.{IsA, IsB, IsC, Foldable, foldable, runs-whole}
+use Rattle.fold.specs.Fold.{partBytes, parts, joined, named, cutOut, readOf}
+use Rattle.plan.proofs.Foldable.{IsA, IsB, IsC, Foldable, foldable}
+use Rattle.fold.proofs.Prepared.{run-is, run-whole, each-is}
 use Rattle.plan.proofs.Counted.{runs-sum}
 use Rattle.plan.proofs.Costs.{bytes-read}
 
@@ -121,9 +123,9 @@ module _ (s : Shape) (zs : List ℕ) (long : length zs ≡ stripeLength s) where
         ∙ ap (λ (x : ℕ). getD zs x 0) (omega arith)
 
   -- kind B: a part of each data column, then the parity columns
-  module _ (f : ℕ) (h : Prepared s) (whole : s .t * runBytes s ≡ s .l) where
+  module _ (f : ℕ) (h : Prepared s) (whole : s .t * runLength s ≡ s .l) where
     abbrev start : ℕ
-    start = s .r * runBytes s
+    start = s .r * runLength s
 
     abbrev datas : List ℕ
     datas = cutOut s (zs ∷ []) (columnSpans 0 start (partBytes s) 0 (s .k))
@@ -133,14 +135,17 @@ module _ (s : Shape) (zs : List ℕ) (long : length zs ≡ stripeLength s) where
 
     two : readOf B s f zs ≡ datas ++ parities
     unfolding readOf kindSpans
-    two = cut-append s (zs ∷ []) (columnSpans 0 start (partBytes s) 0 (s .k)) _
+    two =
+        ap (λ (q : ℕ). cutOut s (zs ∷ []) (columnSpans 0 (s .r * q) ((s .t - s .r) * q) 0 (s .k) ++ columnSpans 0 0 (s .l) (s .k) (s .r))) (sym (run-is s h))
+        ∙ cut-append s (zs ∷ []) (columnSpans 0 start (partBytes s) 0 (s .k)) _
 
     part-within : start + partBytes s ≤ s .l
     part-within = go (h .gains)
       where
         go : s .r < s .t → start + partBytes s ≤ s .l
         go g =
-            let e : start + partBytes s ≡ s .t * runBytes s = sym (add-mul (s .r) (s .t - s .r) (runBytes s)) ∙ ap (λ (x : ℕ). x * runBytes s) (omega arith) in
+            let e : start + partBytes s ≡ s .t * runLength s =
+            sym (add-mul (s .r) (s .t - s .r) (runLength s)) ∙ ap (λ (x : ℕ). x * runLength s) (omega arith) in
             omega arith
 
     datas-length : length datas ≡ s .k * partBytes s
@@ -149,10 +154,10 @@ module _ (s : Shape) (zs : List ℕ) (long : length zs ≡ stripeLength s) where
     parities-length : length parities ≡ s .r * s .l
     parities-length = columns-length s zs 0 (s .l) (omega arith) (s .k) (s .r) (fits (s .k + s .r) (omega arith))
 
-    b-length : length (readOf B s f zs) ≡ (s .r * s .t + s .k * (s .t - s .r)) * runBytes s
+    b-length : length (readOf B s f zs) ≡ (s .r * s .t + s .k * (s .t - s .r)) * runLength s
     b-length =
         ap length two ∙ length-append datas parities ∙ ap₂ _+_ datas-length parities-length
-        ∙ runs-sum (s .k) (s .r) (s .t) (runBytes s) (s .l) whole
+        ∙ runs-sum (s .k) (s .r) (s .t) (runLength s) (s .l) whole
 
     -- the data columns, from their run r on
     pub b-data-at : (i p : ℕ) → i < s .k → p < partBytes s → getD (readOf B s f zs) (i * partBytes s + p) 0 ≡ getD zs (i * s .l + (start + p)) 0
@@ -177,7 +182,7 @@ unfolding bytesEach
 read-length s f zs a (inl h) long =
     subst (λ (κ : Kind). length (readOf κ s f zs) ≡ bytesEach κ s f) (sym (h .kind)) (a-length s zs long f (h .enough))
 read-length s f zs a (inr (inl h)) long =
-    subst (λ (κ : Kind). length (readOf κ s f zs) ≡ bytesEach κ s f) (sym (h .kind)) (b-length s zs long f (h .prepared) (runs-whole s a (h .prepared)))
+    subst (λ (κ : Kind). length (readOf κ s f zs) ≡ bytesEach κ s f) (sym (h .kind)) (b-length s zs long f (h .prepared) (run-whole s (h .prepared) a) ∙ sym (each-is s (h .prepared) f))
 read-length s f zs a (inr (inr h)) long =
     subst (λ (κ : Kind). length (readOf κ s f zs) ≡ bytesEach κ s f) (sym (h .kind)) (c-length s zs long f)
 

@@ -22,11 +22,12 @@ use Rattle.lanes.proofs.Parts.{part-length, part-at, back-length, back-inside, 
 use Rattle.plan.specs.declared.Kind.{Kind}
 use Rattle.plan.specs.declared.Kind.the-variants.{A, B, C}
 use Rattle.plan.specs.Plan.{foldRefusal, kindOf, bytesEach}
-use Rattle.plan.proofs.Foldable.{IsA, IsB, IsC, new-kinds, tests-passed, runs-whole}
+use Rattle.plan.proofs.Foldable.{IsA, IsB, IsC, new-kinds, tests-passed}
 use Rattle.plan.proofs.Counted.{runs-sum}
 use Rattle.fold.specs.declared.shares.Share.{Share}
 use Rattle.fold.specs.declared.shares.Share.the-variants.{Read, Row, Both}
-use Rattle.fold.specs.Fold.{runBytes, partBytes, readParity, readRow, runShare, share}
+use Rattle.fold.specs.Fold.{partBytes, readParity, readRow, runShare, share}
+use Rattle.fold.proofs.Prepared.{run-whole, each-is}
 use Rattle.fold.proofs.Laws.{share-a, share-b}
 use Rattle.fold.specs.Shares.{ReadsParity, IsRows, shareAt, Within, stays, Summed, shareOf, taken}
 
@@ -84,56 +85,55 @@ module _ (s : Shape) (f j b : ℕ) (a : Allowed s) (h : Prepared s) (marked : s 
   jt : j < s .t
   jt = omega arith
 
-  whole : s .t * runBytes s ≡ s .l
-  whole = runs-whole s a h
+  whole : s .t * runLength s ≡ s .l
+  whole = run-whole s h a
 
-  q-is : runLength s ≡ runBytes s
-  q-is = prepared-run-length s (let g = h .gains in omega arith)
-
-  from-parity : s .r ≤ b → shareOf s j b ≡ Row (j * partBytes s + (b - s .r) * runBytes s)
+  from-parity : s .r ≤ b → shareOf s j b ≡ Row (j * partBytes s + (b - s .r) * runLength s)
   unfolding shareOf
   from-parity gb = simp (ne-eqb (s .t) 0 marked-not, le-ltb b (s .r) gb)
 
-  below-below : b < s .r → j < s .r → shareOf s j b ≡ Read (s .k * partBytes s + (j * s .l + b * runBytes s))
+  below-below : b < s .r → j < s .r → shareOf s j b ≡ Read (s .k * partBytes s + (j * s .l + b * runLength s))
   unfolding shareOf
   below-below lb lj = simp (ne-eqb (s .t) 0 marked-not, lt-ltb b (s .r) lb, lt-ltb j (s .r) lj)
 
-  below-from : b < s .r → s .r ≤ j → shareOf s j b ≡ Both (s .k * partBytes s + (b * s .l + j * runBytes s)) (b * partBytes s + (j - s .r) * runBytes s)
+  below-from : b < s .r → s .r ≤ j → shareOf s j b ≡ Both (s .k * partBytes s + (b * s .l + j * runLength s)) (b * partBytes s + (j - s .r) * runLength s)
   unfolding shareOf
   below-from lb gj = simp (ne-eqb (s .t) 0 marked-not, lt-ltb b (s .r) lb, le-ltb j (s .r) gj)
 
-  in-parity : (i c : ℕ) → i < s .r → c < s .t → s .k * partBytes s + (i * s .l + c * runBytes s) + runBytes s ≤ bytesEach B s f
-  unfolding bytesEach
+  in-parity : (i c : ℕ) → i < s .r → c < s .t → s .k * partBytes s + (i * s .l + c * runLength s) + runLength s ≤ bytesEach B s f
   in-parity i c hi hc =
-      omega (arith, runs-sum (s .k) (s .r) (s .t) (runBytes s) (s .l) whole, next-run c (s .t) (runBytes s) (s .l) hc whole, column-inside i (s .r) (s .l) hi)
+      omega (
+        arith,
+        each-is s h f,
+        runs-sum (s .k) (s .r) (s .t) (runLength s) (s .l) whole,
+        next-run c (s .t) (runLength s) (s .l) hc whole,
+        column-inside i (s .r) (s .l) hi,
+      )
 
-  in-rows : (i c : ℕ) → i < f → s .r ≤ c → c < s .t → i * partBytes s + (c - s .r) * runBytes s + runBytes s ≤ f * partBytes s
-  in-rows i c hi lo hc = omega (arith, rest-run c (s .r) (s .t) (runBytes s) lo hc, column-inside i f (partBytes s) hi)
+  in-rows : (i c : ℕ) → i < f → s .r ≤ c → c < s .t → i * partBytes s + (c - s .r) * runLength s + runLength s ≤ f * partBytes s
+  in-rows i c hi lo hc = omega (arith, rest-run c (s .r) (s .t) (runLength s) lo hc, column-inside i f (partBytes s) hi)
 
   b-within : Within (shareOf s j b) (runLength s) (bytesEach B s f) (f * partBytes s)
   unfolding Within
-  b-within = subst (λ (q : ℕ). Within (shareOf s j b) q (bytesEach B s f) (f * partBytes s)) (sym q-is) (go (below-or-from b (s .r)) (below-or-from j (s .r)))
+  b-within = go (below-or-from b (s .r)) (below-or-from j (s .r))
     where
-      by : (σ : Share) → shareOf s j b ≡ σ → Within σ (runBytes s) (bytesEach B s f) (f * partBytes s) → Within (shareOf s j b) (runBytes s) (bytesEach B s f) (f * partBytes s)
-      by σ e w = subst (λ (τ : Share). Within τ (runBytes s) (bytesEach B s f) (f * partBytes s)) (sym e) w
+      by : (σ : Share) → shareOf s j b ≡ σ → Within σ (runLength s) (bytesEach B s f) (f * partBytes s) → Within (shareOf s j b) (runLength s) (bytesEach B s f) (f * partBytes s)
+      by σ e w = subst (λ (τ : Share). Within τ (runLength s) (bytesEach B s f) (f * partBytes s)) (sym e) w
 
-      go : (b < s .r) ⊎ (s .r ≤ b) → (j < s .r) ⊎ (s .r ≤ j) → Within (shareOf s j b) (runBytes s) (bytesEach B s f) (f * partBytes s)
+      go : (b < s .r) ⊎ (s .r ≤ b) → (j < s .r) ⊎ (s .r ≤ j) → Within (shareOf s j b) (runLength s) (bytesEach B s f) (f * partBytes s)
       go (inl lb) (inl lj) = by _ (below-below lb lj) (in-parity j b lj bt)
       go (inl lb) (inr gj) = by _ (below-from lb gj) (in-parity b j lb jt, in-rows b j (omega arith) gj jt)
       go (inr gb) w = by _ (from-parity gb) (in-rows j b hj gb bt)
 
   module _ (xs rs : List ℕ) (e : ℕ) (he : e < runLength s) (rows : IsRows s f xs rs) where
-    he′ : e < runBytes s
-    he′ = subst (λ (x : ℕ). e < x) q-is he
-
     stored : (x y z : ℕ) → getD xs (x + (y + z) + e) 0 ≡ getD xs (x + (y + (z + e))) 0
     stored x y z = ap (λ (i : ℕ). getD xs i 0) (omega arith)
 
-    row-stored : (i c : ℕ) → i < f → s .r ≤ c → c < s .t → getD rs (i * partBytes s + (c - s .r) * runBytes s + e) 0 ≡ readRow s xs i c e
+    row-stored : (i c : ℕ) → i < f → s .r ≤ c → c < s .t → getD rs (i * partBytes s + (c - s .r) * runLength s + e) 0 ≡ readRow s xs i c e
     unfolding readRow
     row-stored i c hi lo hc =
         ap (λ (x : ℕ). getD rs x 0) (omega arith)
-        ∙ rows .at i ((c - s .r) * runBytes s + e) hi (omega (arith, he′, rest-run c (s .r) (s .t) (runBytes s) lo hc))
+        ∙ rows .at i ((c - s .r) * runLength s + e) hi (omega (arith, he, rest-run c (s .r) (s .t) (runLength s) lo hc))
 
     run-same : shareAt (shareOf s j b) xs rs e ≡ runShare s xs j b e
     unfolding runShare readParity shareAt
@@ -142,11 +142,11 @@ module _ (s : Shape) (f j b : ℕ) (a : Allowed s) (h : Prepared s) (marked : s 
         go : (b < s .r) ⊎ (s .r ≤ b) → (j < s .r) ⊎ (s .r ≤ j) → shareAt (shareOf s j b) xs rs e ≡ runShare s xs j b e
         go (inl lb) (inl lj) =
             ap (λ (σ : Share). shareAt σ xs rs e) (below-below lb lj)
-            ∙ simp (lt-ltb b (s .r) lb, lt-ltb j (s .r) lj) (stored (s .k * partBytes s) (j * s .l) (b * runBytes s))
+            ∙ simp (lt-ltb b (s .r) lb, lt-ltb j (s .r) lj) (stored (s .k * partBytes s) (j * s .l) (b * runLength s))
         go (inl lb) (inr gj) =
             ap (λ (σ : Share). shareAt σ xs rs e) (below-from lb gj)
             ∙ simp (lt-ltb b (s .r) lb, le-ltb j (s .r) gj)
-            (ap₂ _⊕_ (stored (s .k * partBytes s) (b * s .l) (j * runBytes s)) (row-stored b j (omega arith) gj jt))
+            (ap₂ _⊕_ (stored (s .k * partBytes s) (b * s .l) (j * runLength s)) (row-stored b j (omega arith) gj jt))
         go (inr gb) w =
             ap (λ (σ : Share). shareAt σ xs rs e) (from-parity gb) ∙ simp (le-ltb b (s .r) gb) (row-stored j b hj gb bt)
 
@@ -154,7 +154,7 @@ module _ (s : Shape) (f j b : ℕ) (a : Allowed s) (h : Prepared s) (marked : s 
     b-same =
         run-same
         ∙ sym (share-b s xs j (b * runLength s + e)
-        ∙ ap₂ (runShare s xs j) (ap (λ (x : ℕ). (b * x + e) / runBytes s) q-is ∙ place-column b he′) (ap (λ (x : ℕ). (b * x + e) % runBytes s) q-is ∙ place-byte b he′))
+        ∙ ap₂ (runShare s xs j) (place-column b he) (place-byte b he))
 
 -- ---- both kinds
 

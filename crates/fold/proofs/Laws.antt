@@ -13,12 +13,12 @@ use Rattle.field.proofs.Xor.{add-lt}
 use Rattle.field.proofs.Bytes.{tabulate-length, tabulate-at, tabulate-bytes}
 use Rattle.field.proofs.Rows.{row-parts, row-nil, row-cons, row-lt}
 use Rattle.stripe.specs.declared.Shape.{Shape}
-use Rattle.stripe.specs.Stripe.{across}
+use Rattle.stripe.specs.Stripe.{across, runLength}
 use Rattle.stripe.proofs.Places.{place-lt, place-column, place-byte}
 use Rattle.plan.specs.declared.Kind.{Kind}
 use Rattle.plan.specs.declared.Kind.the-variants.{A, B, C}
 use Rattle.plan.specs.Plan.{kindOf, bytesEach}
-use Rattle.fold.specs.Fold.{runBytes, readParity, readRow, runShare, share, foldByte, foldStripes, parts, foldOf}
+use Rattle.fold.specs.Fold.{readParity, readRow, runShare, share, foldByte, foldStripes, parts, foldOf}
 
 -- ---- what a stripe adds
 
@@ -27,7 +27,7 @@ module _ (s : Shape) (xs : List ℕ) (j p : ℕ) where
   unfolding share
   share-a = refl
 
-  pub share-b : share B s xs j p ≡ runShare s xs j (p / runBytes s) (p % runBytes s)
+  pub share-b : share B s xs j p ≡ runShare s xs j (p / runLength s) (p % runLength s)
   unfolding share
   share-b = refl
 

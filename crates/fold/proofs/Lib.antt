@@ -1,3 +1,4 @@
+pub mod Prepared
 pub mod Laws
 pub mod Cut
 pub mod Carried

@@ -6,8 +6,10 @@ use native.Mathlib.Nat.{mul-le-mul}
 use native.Mathlib.Omega.{arith}
 use Rattle.stripe.specs.declared.Shape.{Shape}
 use Rattle.stripe.specs.Shape.{shapeRefusal, mostRows, mostLength}
+use Rattle.stripe.specs.Stripe.{runLength}
 use Rattle.stripe.proofs.Allowed.{Prepared, allowed}
 use Rattle.plan.proofs.Bounds.{data-small, run-small, part-small}
+use Rattle.fold.specs.Fold.{partBytes}
 
 module _ (s : Shape) (passed : shapeRefusal s ≡ 0) where
   -- a shape with a mark is prepared
@@ -26,3 +28,14 @@ module _ (s : Shape) (passed : shapeRefusal s ≡ 0) where
 
   pub data-parts : s .k * ((s .t - s .r) * (s .l / s .t)) ≤ 3133440
   data-parts = mul-le-mul (data-small s passed) (part-small s passed)
+
+  -- the same of the parts of any stripe
+  pub data-part-bytes : s .k * partBytes s ≤ 3133440
+  data-part-bytes =
+      let a = allowed s passed in
+      let run : runLength s ≤ 4096 = omega (arith, a .run-most, a .length-most) in
+      mul-le-mul (data-small s passed) (mul-le-mul {n₂ = 3} (rest (a .mark)) run)
+    where
+      rest : (s .t ≡ 0) ⊎ Prepared s → s .t - s .r ≤ 3
+      rest (inl e) = omega arith
+      rest (inr h) = let m = h .mark-most in omega arith

@@ -11,32 +11,34 @@ use borrow.Author.Tests.{le-leb, eq-eqb}
 use Rattle.field.specs.Row.{row}
 use Rattle.stripe.specs.declared.Shape.{Shape}
 use Rattle.stripe.specs.Shape.{shapeRefusal, mostData, mostParity, mostLength}
-use Rattle.stripe.specs.Stripe.{across, rowAt, parity}
+use Rattle.stripe.specs.Stripe.{across, rowAt, parity, runLength}
 use Rattle.stripe.specs.Column.{lentRefusal}
 use Rattle.stripe.proofs.Allowed.{Allowed, Prepared, allowed}
 use Rattle.stripe.proofs.Places.{parity-length, parity-at, plain-parity, across-take}
 use Rattle.coding.specs.Encode.{encoded}
 use Rattle.plan.specs.declared.Kind.{Kind}
 use Rattle.plan.specs.Plan.{kindOf, bytesEach}
-use Rattle.plan.proofs.Foldable.{IsA, IsB, new-least, new-limit, runs-whole}
+use Rattle.plan.proofs.Foldable.{IsA, IsB, new-least, new-limit}
 use Rattle.plan.proofs.Counted.{runs-sum}
-use Rattle.fold.specs.Fold.{runBytes, partBytes}
+use Rattle.fold.specs.Fold.{partBytes}
 use Rattle.fold.specs.Shares.{ReadsParity, IsRows}
+use Rattle.fold.proofs.Prepared.{run-whole, each-is}
 use Rattle.fold.proofs.Filling.{reads-kinds}
 
 -- of a plain stripe no data are read
 pub no-part : (s : Shape) → s .t ≡ 0 → partBytes s ≡ 0
-no-part s e = let z : s .t - s .r ≡ 0 = omega arith in ap (λ (x : ℕ). x * runBytes s) z ∙ omega arith
+no-part s e = let z : s .t - s .r ≡ 0 = omega arith in ap (λ (x : ℕ). x * runLength s) z ∙ omega arith
 
 -- the parts are no longer than the columns, and the rows of all of them fit two columns
 module _ (s : Shape) (a : Allowed s) (h : Prepared s) where
   pub part-most : partBytes s ≤ s .l
-  part-most = let g : s .t - s .r ≤ s .t = omega arith in omega (arith, mul-le-mul-right (runBytes s) g, runs-whole s a h)
+  part-most = let g : s .t - s .r ≤ s .t = omega arith in omega (arith, mul-le-mul-right (runLength s) g, run-whole s h a)
 
   pub rows-most : s .t * partBytes s ≤ 8192
   rows-most =
       let two : s .t - s .r ≤ 2 = let g = h .mark-most in let r = a .parity-some in omega arith in
-      let swap : s .t * partBytes s ≡ (s .t - s .r) * s .l = mul-left-comm (s .t) (s .t - s .r) (runBytes s) ∙ ap (λ (x : ℕ). (s .t - s .r) * x) (runs-whole s a h) in
+      let swap : s .t * partBytes s ≡ (s .t - s .r) * s .l =
+      mul-left-comm (s .t) (s .t - s .r) (runLength s) ∙ ap (λ (x : ℕ). (s .t - s .r) * x) (run-whole s h a) in
       omega (arith, swap, mul-le-mul {n₂ = 2} two (a .length-most))
 
 module _ (s : Shape) (f : ℕ) (reads : ReadsParity s f) (some : partBytes s ≡ 0 → ⊥) where
@@ -52,10 +54,9 @@ module _ (s : Shape) (f : ℕ) (reads : ReadsParity s f) (some : partBytes s ≡
 
   -- the data read lie first
   pub part-in : s .k * partBytes s ≤ bytesEach (kindOf s f) s f
-  unfolding bytesEach
   part-in =
       subst (λ (κ : Kind). s .k * partBytes s ≤ bytesEach κ s f) (sym (is-b .kind))
-      (omega (arith, runs-sum (s .k) (s .r) (s .t) (runBytes s) (s .l) (runs-whole s good (is-b .prepared))))
+      (omega (arith, each-is s (is-b .prepared) f, runs-sum (s .k) (s .r) (s .t) (runLength s) (s .l) (run-whole s (is-b .prepared) good)))
 
   abbrev plain : Shape
   plain = record { k = s .k; r = f; t = 0; l = partBytes s }

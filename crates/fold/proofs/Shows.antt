@@ -17,13 +17,14 @@ use Rattle.field.proofs.Cases.{below-or-from}
 use Rattle.field.proofs.Bytes.{append-bytes, take-bytes}
 use Rattle.stripe.specs.declared.Shape.{Shape}
 use Rattle.stripe.specs.Shape.{dataLength, stripeLength}
-use Rattle.stripe.specs.Stripe.{parityByte, parity, dataOf, Codeword}
+use Rattle.stripe.specs.Stripe.{runLength, parityByte, parity, dataOf, Codeword}
 use Rattle.stripe.proofs.Allowed.{Allowed, Prepared}
 use Rattle.stripe.proofs.Places.{place-lt, place-column, place-byte, place-split, place-column-lt, parity-exact, parity-byte-lt, codeword-checks}
 use Rattle.plan.specs.declared.Kind.{Kind}
 use Rattle.plan.specs.Plan.{kindOf, foldRefusal, plan, wideShape}
-use Rattle.fold.specs.Fold.{runBytes, foldOf, joined, wideData, cutOut, wideStripe, disagreement, parityNamed, runCarried, carried}
-use Rattle.plan.proofs.Foldable.{IsA, IsB, IsC, Foldable, foldable, runs-whole, run-pos}
+use Rattle.fold.specs.Fold.{foldOf, joined, wideData, cutOut, wideStripe, disagreement, parityNamed, runCarried, carried}
+use Rattle.plan.proofs.Foldable.{IsA, IsB, IsC, Foldable, foldable}
+use Rattle.fold.proofs.Prepared.{run-whole}
 use Rattle.fold.proofs.Laws.{fold-length, fold-bytes}
 use Rattle.fold.proofs.Wide.{answer-is, wide-data, wide-answer, wide-data-length, disagreement-sum}
 use Rattle.fold.proofs.Sums.{map-none, map-one}
@@ -40,11 +41,11 @@ disagreement-lt s zs i p b = add-lt 8 _ _ (b ((s .k + i) * s .l + p)) (parity-by
 -- ---- where a disagreement is carried to, run by run
 
 module _ (s : Shape) (zs : List ℕ) (j b e : ℕ) where
-  carried-low : b < s .r → j < s .r → runCarried s zs j b e ≡ disagreement s zs j (b * runBytes s + e)
+  carried-low : b < s .r → j < s .r → runCarried s zs j b e ≡ disagreement s zs j (b * runLength s + e)
   unfolding runCarried
   carried-low lb lj = simp (lt-ltb b (s .r) lb, lt-ltb j (s .r) lj)
 
-  carried-high : b < s .r → s .r ≤ j → runCarried s zs j b e ≡ disagreement s zs b (j * runBytes s + e)
+  carried-high : b < s .r → s .r ≤ j → runCarried s zs j b e ≡ disagreement s zs b (j * runLength s + e)
   unfolding runCarried
   carried-high lb gj = simp (lt-ltb b (s .r) lb, le-ltb j (s .r) gj)
 
@@ -54,16 +55,16 @@ module _ (s : Shape) (zs : List ℕ) (j b e : ℕ) where
 
 module _ (s : Shape) (a : Allowed s) (h : Prepared s) where
   abbrev q : ℕ
-  q = runBytes s
+  q = runLength s
 
   place-in : (b e : ℕ) → b < s .t → e < q → b * q + e < s .l
-  place-in b e hb he = subst (λ (x : ℕ). b * q + e < x) (runs-whole s a h) (place-lt hb he)
+  place-in b e hb he = subst (λ (x : ℕ). b * q + e < x) (run-whole s h a) (place-lt hb he)
 
   run-lt : (p : ℕ) → p < s .l → p / q < s .t
-  run-lt p hp = place-column-lt p (s .t) q (subst (λ (x : ℕ). p < x) (sym (runs-whole s a h)) hp)
+  run-lt p hp = place-column-lt p (s .t) q (subst (λ (x : ℕ). p < x) (sym (run-whole s h a)) hp)
 
   in-lt : (p : ℕ) → p % q < q
-  in-lt p = mod-lt p (run-pos s a h)
+  in-lt p = mod-lt p (a .run-some)
 
   -- what is carried is the disagreement at one of the stripe's places, or nothing
   run-from : (zs : List ℕ) (P : ℕ → Type 0) → P 0 → ((i p : ℕ) → i < s .r → p < s .l → P (disagreement s zs i p))

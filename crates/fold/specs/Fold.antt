@@ -9,7 +9,7 @@ use Rattle.field.specs.Field.{_⊕_}
 use Rattle.field.specs.Bytes.{tabulate}
 use Rattle.field.specs.Row.{row}
 use Rattle.stripe.specs.declared.Shape.{Shape}
-use Rattle.stripe.specs.Stripe.{across, parityByte, dataOf}
+use Rattle.stripe.specs.Stripe.{across, runLength, parityByte, dataOf}
 use Rattle.plan.specs.declared.Span.{Span}
 use Rattle.plan.specs.declared.Kind.{Kind}
 use Rattle.plan.specs.declared.Kind.the-variants.{A, B, C}
@@ -17,13 +17,9 @@ use Rattle.plan.specs.Plan.{foldRefusal, kindOf, bytesEach, bytesRead, kindSpan
 
 -- ---- kind B: what is read of a stripe is a part of each data column, the runs r to t-1, then the parity columns
 
--- the bytes of a run
-abbrev pub runBytes : Shape → ℕ
-runBytes s = s .l / s .t
-
 -- the bytes read of a data column
 abbrev pub partBytes : Shape → ℕ
-partBytes s = (s .t - s .r) * runBytes s
+partBytes s = (s .t - s .r) * runLength s
 
 -- the byte of parity column i at place p
 unfoldable pub readParity : Shape → List ℕ → ℕ → ℕ → ℕ
@@ -31,15 +27,15 @@ readParity s xs i p = getD xs (s .k * partBytes s + (i * s .l + p)) 0
 
 -- row i of run b of the data, at place e of the run; b >= r
 unfoldable pub readRow : Shape → List ℕ → ℕ → ℕ → ℕ → ℕ
-readRow s xs i b e = row i (across xs (partBytes s) ((b - s .r) * runBytes s + e) 0 (s .k))
+readRow s xs i b e = row i (across xs (partBytes s) ((b - s .r) * runLength s + e) 0 (s .k))
 
 -- what a stripe adds to wide row j at place e of run b. If b >= r: row j of the data. If b < r: run b of parity column j if
 -- j < r; if j >= r, run j of parity column b plus row b of run j
 unfoldable pub runShare : Shape → List ℕ → ℕ → ℕ → ℕ → ℕ
 runShare s xs j b e =
     cond (ltb b (s .r))
-    (cond (ltb j (s .r)) (readParity s xs j (b * runBytes s + e))
-    (readParity s xs b (j * runBytes s + e) ⊕ readRow s xs b j e))
+    (cond (ltb j (s .r)) (readParity s xs j (b * runLength s + e))
+    (readParity s xs b (j * runLength s + e) ⊕ readRow s xs b j e))
     (readRow s xs j b e)
 
 -- ---- all kinds
@@ -47,7 +43,7 @@ runShare s xs j b e =
 -- what a stripe adds to wide row j at place p, from the bytes read of it. A: its parity column j. B: run by run. C: row j of its data
 unfoldable pub share : Kind → Shape → List ℕ → ℕ → ℕ → ℕ
 share A s xs j p = getD xs (j * s .l + p) 0
-share B s xs j p = runShare s xs j (p / runBytes s) (p % runBytes s)
+share B s xs j p = runShare s xs j (p / runLength s) (p % runLength s)
 share C s xs j p = row j (across xs (s .l) p 0 (s .k))
 
 -- wide row j at place p: the sum over the stripes l, in order, of g^(j*k*l) times what the stripe adds, which is row j*k of that
@@ -122,11 +118,11 @@ parityNamed C s f = 0
 unfoldable pub runCarried : Shape → List ℕ → ℕ → ℕ → ℕ → ℕ
 runCarried s zs j b e =
     cond (ltb b (s .r))
-    (cond (ltb j (s .r)) (disagreement s zs j (b * runBytes s + e)) (disagreement s zs b (j * runBytes s + e)))
+    (cond (ltb j (s .r)) (disagreement s zs j (b * runLength s + e)) (disagreement s zs b (j * runLength s + e)))
     0
 
 -- the disagreement of a stripe that its fold carries on to place p of wide row j
 unfoldable pub carried : Kind → Shape → List ℕ → ℕ → ℕ → ℕ
 carried A s zs j p = disagreement s zs j p
-carried B s zs j p = runCarried s zs j (p / runBytes s) (p % runBytes s)
+carried B s zs j p = runCarried s zs j (p / runLength s) (p % runLength s)
 carried C s zs j p = 0

@@ -11,12 +11,12 @@ use Rattle.field.specs.Bytes.{tabulate}
 use Rattle.field.specs.Row.{row}
 use Rattle.stripe.specs.declared.Shape.{Shape}
 use Rattle.stripe.specs.Shape.{shapeRefusal}
-use Rattle.stripe.specs.Stripe.{across}
+use Rattle.stripe.specs.Stripe.{across, runLength}
 use Rattle.plan.specs.declared.Kind.the-variants.{C}
 use Rattle.plan.specs.Plan.{newAllowed, kindOf}
 use Rattle.fold.specs.declared.shares.Share.{Share}
 use Rattle.fold.specs.declared.shares.Share.the-variants.{Read, Row, Both}
-use Rattle.fold.specs.Fold.{runBytes, partBytes, share}
+use Rattle.fold.specs.Fold.{partBytes, share}
 
 -- a fold that reads parity, of an allowed shape and an allowed f
 pub record ReadsParity (s : Shape) (f : ℕ) : Type 0 where
@@ -55,9 +55,9 @@ unfoldable pub shareOf : Shape → ℕ → ℕ → Share
 shareOf s j b =
     cond (eqb (s .t) 0) (Read (j * s .l))
     (cond (ltb b (s .r))
-    (cond (ltb j (s .r)) (Read (s .k * partBytes s + (j * s .l + b * runBytes s)))
-    (Both (s .k * partBytes s + (b * s .l + j * runBytes s)) (b * partBytes s + (j - s .r) * runBytes s)))
-    (Row (j * partBytes s + (b - s .r) * runBytes s)))
+    (cond (ltb j (s .r)) (Read (s .k * partBytes s + (j * s .l + b * runLength s)))
+    (Both (s .k * partBytes s + (b * s .l + j * runLength s)) (b * partBytes s + (j - s .r) * runLength s)))
+    (Row (j * partBytes s + (b - s .r) * runLength s)))
 
 -- the wide parity ys once a stripe is taken in, from the bytes read of it
 unfoldable pub taken : Shape → ℕ → Bool → List ℕ → List ℕ → List ℕ

@@ -6,7 +6,7 @@ use lib.ListN.{length}
 use lib.Seq.{length-take-le}
 use denote.Ref.{now}
 use Rattle.plan.proofs.Bounds.{fits}
-use Rattle.fold.proofs.Offsets.{data-parts}
+use Rattle.fold.proofs.Offsets.{data-part-bytes}
 use Rattle.fold.proofs.Rowed.{part-in, rows-by}
 use borrow.Author.Needs.{needs}
 use Rattle.fold.proofs.stripes.fill_rows.Statement.{statement}
@@ -22,7 +22,7 @@ mul-end : tie.Need-mul-end
 mul-end c =
     let z = c .before .before .before .before in
     let e = c .before .part-bytes .ensures in
-    fits _ (subst (λ (x : ℕ). z .args .s .k * x < 2 ^ 64) (sym e) (omega (arith, data-parts _ (z .pre .0 .shape))))
+    fits _ (subst (λ (x : ℕ). z .args .s .k * x < 2 ^ 64) (sym e) (omega (arith, data-part-bytes _ (z .pre .0 .shape))))
 
 new-requires : tie.Need-new-requires
 new-requires c κs = search needs

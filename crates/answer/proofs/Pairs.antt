@@ -55,7 +55,9 @@ module _ (out₀ w out out′ out″ : List ℕ) (next next′ next″ q : ℕ) 
       (omega (arith, over-long out₀ out 0 (pairs (take q w)) f (omega arith))) in
       let o = over-on out₀ out out″ 0 next (pairs (take q w)) ((getD w q 0 % 256 ∷ []) ++ (getD w q 0 / 256 ∷ [])) f (omega arith) both (omega arith) in
       let p : out″ ≡ over out₀ 0 (pairs (take (q + 1) w)) =
-      o ∙ ap (over out₀ 0) (sym (ap pairs (take-more w q below) ∙ pairs-append (take q w) (getD w q 0 ∷ []) ∙ ap (λ (t : List ℕ). pairs (take q w) ++ t) (pairs-one (getD w q 0)))) in
+      o ∙ ap (over out₀ 0)
+      (sym (ap pairs (take-more w q below) ∙ pairs-append (take q w) (getD w q 0 ∷ [])
+      ∙ ap (λ (t : List ℕ). pairs (take q w) ++ t) (pairs-one (getD w q 0)))) in
       (omega arith, (over-long out₀ out″ 0 (pairs (take (q + 1) w)) p (omega arith), p))
 
 pub pairs-done : (out₀ w out : List ℕ) (q : ℕ) → length w ≤ q → length out₀ ≡ 2 * length w → out ≡ over out₀ 0 (pairs (take q w)) → out ≡ pairs w

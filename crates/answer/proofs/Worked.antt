@@ -80,7 +80,8 @@ module _ (bs held₀ list₀ : List ℕ) (got : Got) (held list : List ℕ) (pre
         ∙ take-at (lostListed bs) _ (countOf bs) (lost-long bs)
 
     -- the buffers mended
-    module _ (v : ℕ) (ys : List ℕ) (m : Mended (got .shape) (pairs (take (got .lost) list)) (take ((got .shape .k + got .shape .r) * got .shape .l) held) v ys) where
+    module _ (v : ℕ) (ys : List ℕ)
+        (m : Mended (got .shape) (pairs (take (got .lost) list)) (take ((got .shape .k + got .shape .r) * got .shape .l) held) v ys) where
       pub mended-outcome : RecordMended bs 65536 258 v ys
       mended-outcome =
           outcome-read bs 65536 258 v ys none-refused

@@ -36,7 +36,9 @@ use Rattle.answer.specs.declared.mended.Answer.{Answer}
 use Rattle.answer.specs.Answer.{described}
 use Rattle.text.specs.Text.{textRoom}
 use Rattle.shelf.specs.Shelf.{shapeOf, spansRefusal, spansFilled}
-use Rattle.demands.specs.Calls.{Names, Encodes, Mends, Folds, PlanRefuses, PlanColumns, PlanBytes, PlanSpans, Column, Reads, Writes, MendsRecord, Prints, encodeTable, mendTable, planTable, foldTable, spansTable, readTable, writeTable, RecordJudged, mendedAnswer, refusedAnswer, textWith}
+use Rattle.demands.specs.Calls.{Names, Encodes, Mends, Folds, PlanRefuses, PlanColumns, PlanBytes, PlanSpans, Column, Reads, Writes, MendsRecord, Prints}
+use Rattle.demands.specs.Calls.{encodeTable, mendTable, planTable, foldTable, spansTable, readTable, writeTable, RecordJudged, mendedAnswer}
+use Rattle.demands.specs.Calls.{refusedAnswer, textWith}
 use Rattle.stripe.proofs.Allowed.{allowed}
 use Rattle.stripe.proofs.Places.{parity-at, parity-below, parity-from, plain-parity, codeword-checks, encoded-codeword}
 use Rattle.stripe.proofs.Determined.{determined}
@@ -136,7 +138,8 @@ module _ (k r t l : ℕ) where
 -- the column question: an empty part exactly for 1, 2, 5 or a position not below n
 pub demand-1-column : (s : Shape) (ds ps : List ℕ) (c : ℕ) (v : List ℕ) → Column s ds ps c v
     → (v ≡ []) ↔ ((firstOf (encodeTable s (length ds) (length ps)) ≡ 0 → ⊥) ⊎ (columns s ≤ c))
-demand-1-column s ds ps c v p = (λ e. empty e (zero-or-not (lentRefusal s (length ds) (length ps))), refused (zero-or-not (lentRefusal s (length ds) (length ps))))
+demand-1-column s ds ps c v p =
+    (λ e. empty e (zero-or-not (lentRefusal s (length ds) (length ps))), refused (zero-or-not (lentRefusal s (length ds) (length ps))))
   where
     e : lentRefusal s (length ds) (length ps) ≡ firstOf (encodeTable s (length ds) (length ps))
     e = encode-table s (length ds) (length ps)

@@ -59,10 +59,12 @@ module _ (bs : List ℕ) (a b : ℕ) (z : readRefusal bs a b ≡ 0) where
   half = omega (arith, pairs-length (lostListed bs), positions-length bs (countOf bs) (nextOf (countNumber bs)))
 
   ascend : ascending 0 (columns (shapeRead bs)) (positions (pairs (lostListed bs))) ≡ true
-  ascend = ap (ascending 0 (columns (shapeRead bs))) (positions-pairs (lostListed bs)) ∙ ascending-so 0 (columns (shapeRead bs)) (lostListed bs) (says .ascending)
+  ascend =
+      ap (ascending 0 (columns (shapeRead bs))) (positions-pairs (lostListed bs)) ∙ ascending-so 0 (columns (shapeRead bs)) (lostListed bs) (says .ascending)
 
   -- what mending refuses of it is the list's length
-  list-alone : mendRefusal (shapeRead bs) (length (described bs)) (pairs (lostListed bs)) ≡ listRefusal (columns (shapeRead bs)) (shapeRead bs .r) (pairs (lostListed bs))
+  list-alone : mendRefusal (shapeRead bs) (length (described bs)) (pairs (lostListed bs))
+      ≡ listRefusal (columns (shapeRead bs)) (shapeRead bs .r) (pairs (lostListed bs))
   unfolding mendRefusal
   list-alone = simp (eq-eqb _ _ (read-shaped bs a b z), eq-eqb _ _ described-long)
 

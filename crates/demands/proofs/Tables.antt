@@ -15,7 +15,8 @@ use Rattle.plan.specs.Plan.{stripesAllowed, newAllowed, foldRefusal, columnsRea
 use Rattle.fold.specs.Fold.{foldVerdict}
 use Rattle.number.specs.Number.{numberRefusal, nextOf}
 use Rattle.record.specs.Layout.{recordOf}
-use Rattle.record.specs.Reading.{shapeRead, firstOf, unless, firstNumber, secondNumber, thirdNumber, fourthNumber, countNumber, countOf, columnsStart, stripeRefusal, headRefusal, positionsRefusal, columnsRefusal, contentRefusal, readRefusal}
+use Rattle.record.specs.Reading.{shapeRead, firstOf, unless, firstNumber, secondNumber, thirdNumber, fourthNumber, countNumber, countOf, columnsStart}
+use Rattle.record.specs.Reading.{stripeRefusal, headRefusal, positionsRefusal, columnsRefusal, contentRefusal, readRefusal}
 use Rattle.writing.specs.Writing.{ascends, writeRefusal}
 use Rattle.shelf.specs.Shelf.{spansRefusal}
 use Rattle.demands.specs.Calls.{numbersAllowed, encodeTable, mendTable, planTable, foldTable, spansTable, writeTable, readTable}

@@ -1,5 +1,5 @@
--- What each call promises, as a relation between what it is lent, its answer and what it leaves; and document 01's table for each, in its order:
--- a refusal stands beside the condition that it is given without, and the answer is the first that is given, else 0.
+-- What each call promises, as a relation between what it is lent, its answer and what it leaves; and document 01's table for each, in its
+-- order: a refusal stands beside the condition that it is given without, and the answer is the first that is given, else 0.
 use Prim.Native.Nat.{ℕ, _+_, _-_, _*_, _%_, _<_, _≤_}
 use mathlib.Core.Path.{_≡_}
 use mathlib.Core.Bool.{Bool, cond, _&&_}
@@ -8,7 +8,8 @@ use mathlib.Core.List.{List, [], _∷_}
 use lib.Dec.{leb, eqb}
 use lib.ListN.{length}
 use Rattle.stripe.specs.declared.Shape.{Shape}
-use Rattle.stripe.specs.Shape.{dataAllowed, parityAllowed, markAllowed, lengthAllowed, columns, dataLength, parityLength, stripeLength, noShape}
+use Rattle.stripe.specs.Shape.{dataAllowed, parityAllowed, markAllowed, lengthAllowed, noShape}
+use Rattle.stripe.specs.Shape.{columns, dataLength, parityLength, stripeLength}
 use Rattle.stripe.specs.Column.{columnOf}
 use Rattle.coding.specs.Encode.{encodeRefusal, encoded}
 use Rattle.lost.specs.Positions.{positions, ascending}
@@ -20,7 +21,8 @@ use Rattle.record.specs.declared.read.Got.{Got}
 use Rattle.writing.specs.declared.Written.{Written}
 use Rattle.number.specs.Number.{numberRefusal, nextOf}
 use Rattle.record.specs.Layout.{recordOf}
-use Rattle.record.specs.Reading.{shapeRead, firstOf, unless, firstNumber, secondNumber, thirdNumber, fourthNumber, countNumber, countOf, lostListed, columnsStart, positionsRefusal, columnsRefusal, gotOf, stripeRead, lostRead}
+use Rattle.record.specs.Reading.{shapeRead, firstOf, unless, firstNumber, secondNumber, thirdNumber, fourthNumber, countNumber}
+use Rattle.record.specs.Reading.{countOf, lostListed, columnsStart, positionsRefusal, columnsRefusal, gotOf, stripeRead, lostRead}
 use Rattle.writing.specs.Writing.{ascends, writtenOf, outWritten}
 use Rattle.answer.specs.declared.mended.Answer.{Answer}
 use Rattle.answer.specs.Answer.{described, Answered, Printed}
@@ -118,7 +120,8 @@ foldTable s n f a b = planTable s n f (unless (eqb a (bytesRead s n f) && eqb b 
 abbrev pub spansTable : Shape → ℕ → ℕ → ℕ → List ℕ
 spansTable s n f room = planTable s n f (unless (leb (columnsRead s n f) room) 5 ∷ [])
 
--- writing a record of the stripe xs whose columns es are lost, with so much room; 6 comes before 5 for the record's own length and the output
+-- writing a record of the stripe xs whose columns es are lost, with so much room; 6 comes before 5 for the record's own length and the
+-- output
 abbrev pub writeTable : Shape → List ℕ → List ℕ → ℕ → List ℕ
 writeTable s xs es room =
     unless (numbersAllowed s) 1
@@ -130,8 +133,8 @@ writeTable s xs es room =
     ∷ unless (leb (length (recordOf s es xs)) room) 5
     ∷ []
 
--- reading a record bs, front to back, with a lent buffer and a list of these lengths: 5; each number as it comes (9); after the fourth 1, 2 and 5;
--- then the lost count and the positions (9, and 6 as soon as seen); then 9 or 10 for the columns
+-- reading a record bs, front to back, with a lent buffer and a list of these lengths: 5; each number as it comes (9); after the fourth 1, 2
+-- and 5; then the lost count and the positions (9, and 6 as soon as seen); then 9 or 10 for the columns
 abbrev pub readTable : List ℕ → ℕ → ℕ → List ℕ
 readTable bs a b =
     unless (leb (length bs) 65536) 5
@@ -152,8 +155,9 @@ readTable bs a b =
 
 -- ---- a record mended
 
--- the number n of a record that is read with a lent buffer and a list of these lengths, and the stripe ys that it is mended to: first reading's
--- table; then 7 for more than r lost columns; then 8 where no codeword agrees with every survivor, else 0 and ys is such a codeword
+-- the number n of a record that is read with a lent buffer and a list of these lengths, and the stripe ys that it is mended to: first
+-- reading's table; then 7 for more than r lost columns; then 8 where no codeword agrees with every survivor, else 0 and ys is such a
+-- codeword
 pub record RecordJudged (bs : List ℕ) (a b n : ℕ) (ys : List ℕ) : Type 0 where
   pub unread : (firstOf (readTable bs a b) ≡ 0 → ⊥) → n ≡ firstOf (readTable bs a b)
   pub many : firstOf (readTable bs a b) ≡ 0 → shapeRead bs .r < countOf bs → n ≡ 7

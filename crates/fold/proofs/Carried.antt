@@ -16,7 +16,8 @@ use Rattle.stripe.specs.declared.Shape.{Shape}
 use Rattle.stripe.specs.Shape.{stripeLength}
 use Rattle.stripe.specs.Stripe.{across, rowAt, runLength, dataOf}
 use Rattle.stripe.proofs.Allowed.{Allowed, Prepared}
-use Rattle.stripe.proofs.Places.{place-lt, place-column, place-byte, place-split, place-column-lt, across-length, across-first, row-at-stripe, parity-below, parity-from, plain-parity}
+use Rattle.stripe.proofs.Places.{place-lt, place-column, place-byte, place-split, place-column-lt, across-length, across-first, row-at-stripe, parity-below}
+use Rattle.stripe.proofs.Places.{parity-from, plain-parity}
 use Rattle.plan.specs.declared.Kind.{Kind}
 use Rattle.plan.specs.declared.Kind.the-variants.{A, B, C}
 use Rattle.plan.specs.Plan.{kindOf}
@@ -91,7 +92,8 @@ module _ (s : Shape) (zs : List ℕ) (a : Allowed s) (long : length zs ≡ strip
     row-read i b e lo hb he =
         ap (row i)
         (across-same (readOf B s f zs) zs (partBytes s) ((b - s .r) * q + e) (s .l) (b * q + e) (s .k)
-        (λ c k. b-data-at s zs long f h whole c ((b - s .r) * q + e) k (place-lt {c = b - s .r} {n = s .t - s .r} (omega arith) he) ∙ ap (λ (x : ℕ). getD zs (c * s .l + x) 0) places))
+        (λ c k. b-data-at s zs long f h whole c ((b - s .r) * q + e) k (place-lt {c = b - s .r} {n = s .t - s .r} (omega arith) he)
+        ∙ ap (λ (x : ℕ). getD zs (c * s .l + x) 0) places))
         ∙ sym (row-at-stripe s zs i (b * q + e) (place-in b e hb he))
       where
         sum : s .r * q + (b - s .r) * q ≡ b * q

@@ -89,7 +89,8 @@ module _ (s : Shape) (zs : List ℕ) (a m : ℕ) (within : a + m ≤ s .l) where
       ∙ getD-take m (drop (c * s .l + a) zs) (0 * m + p) 0 (omega arith)
       ∙ getD-drop (c * s .l + a) zs (0 * m + p) 0 ∙ ap (λ (x : ℕ). getD zs x 0) (omega arith)
   columns-at c (suc k) (suc i) p h hi hp =
-      at-rest (take m (drop (c * s .l + a) zs)) (cutOut s (zs ∷ []) (columnSpans 0 a m (suc c) k)) m (suc i * m + p) (i * m + p) (head-length c (omega arith)) (omega arith)
+      at-rest (take m (drop (c * s .l + a) zs)) (cutOut s (zs ∷ []) (columnSpans 0 a m (suc c) k)) m (suc i * m + p) (i * m + p) (head-length c (omega arith))
+      (omega arith)
       ∙ columns-at (suc c) k i p (omega arith) (le-of-suc-le-suc hi) hp ∙ ap (λ (x : ℕ). getD zs x 0) (omega arith)
 
 -- ---- what is read of a stripe, by its places
@@ -182,7 +183,8 @@ unfolding bytesEach
 read-length s f zs a (inl h) long =
     subst (λ (κ : Kind). length (readOf κ s f zs) ≡ bytesEach κ s f) (sym (h .kind)) (a-length s zs long f (h .enough))
 read-length s f zs a (inr (inl h)) long =
-    subst (λ (κ : Kind). length (readOf κ s f zs) ≡ bytesEach κ s f) (sym (h .kind)) (b-length s zs long f (h .prepared) (run-whole s (h .prepared) a) ∙ sym (each-is s (h .prepared) f))
+    subst (λ (κ : Kind). length (readOf κ s f zs) ≡ bytesEach κ s f) (sym (h .kind))
+    (b-length s zs long f (h .prepared) (run-whole s (h .prepared) a) ∙ sym (each-is s (h .prepared) f))
 read-length s f zs a (inr (inr h)) long =
     subst (λ (κ : Kind). length (readOf κ s f zs) ≡ bytesEach κ s f) (sym (h .kind)) (c-length s zs long f)
 
@@ -200,7 +202,8 @@ pub joined-length : (m : ℕ) (xss : List (List ℕ)) → ((l : ℕ) → l < len
 unfolding joined
 joined-length m [] h = sym (zero-mul m)
 joined-length m (xs ∷ xss) h =
-    length-append xs (joined xss) ∙ ap₂ _+_ (h 0 (omega arith)) (joined-length m xss (λ l k. h (suc l) (omega arith))) ∙ add-comm m _ ∙ sym (suc-mul (length xss) m)
+    length-append xs (joined xss) ∙ ap₂ _+_ (h 0 (omega arith)) (joined-length m xss (λ l k. h (suc l) (omega arith))) ∙ add-comm m _
+    ∙ sym (suc-mul (length xss) m)
 
 -- an input is its parts joined
 pub joined-parts : (m n : ℕ) (xs : List ℕ) → length xs ≡ n * m → joined (parts m n xs) ≡ xs

@@ -117,7 +117,8 @@ module _ (s : Shape) (f j b : ℕ) (a : Allowed s) (h : Prepared s) (marked : s 
   unfolding Within
   b-within = go (below-or-from b (s .r)) (below-or-from j (s .r))
     where
-      by : (σ : Share) → shareOf s j b ≡ σ → Within σ (runLength s) (bytesEach B s f) (f * partBytes s) → Within (shareOf s j b) (runLength s) (bytesEach B s f) (f * partBytes s)
+      by : (σ : Share) → shareOf s j b ≡ σ → Within σ (runLength s) (bytesEach B s f) (f * partBytes s)
+          → Within (shareOf s j b) (runLength s) (bytesEach B s f) (f * partBytes s)
       by σ e w = subst (λ (τ : Share). Within τ (runLength s) (bytesEach B s f) (f * partBytes s)) (sym e) w
 
       go : (b < s .r) ⊎ (s .r ≤ b) → (j < s .r) ⊎ (s .r ≤ j) → Within (shareOf s j b) (runLength s) (bytesEach B s f) (f * partBytes s)
@@ -167,9 +168,11 @@ module _ (s : Shape) (f : ℕ) (reads : ReadsParity s f) where
     where
       go : IsA s f ⊎ IsB s f → Within (shareOf s j b) (runLength s) (bytesEach (kindOf s f) s f) (f * partBytes s)
       go (inl h) =
-          subst (λ (κ : Kind). Within (shareOf s j b) (runLength s) (bytesEach κ s f) (f * partBytes s)) (sym (h .kind)) (a-within s f j b (h .plain) (f * partBytes s) hj)
+          subst (λ (κ : Kind). Within (shareOf s j b) (runLength s) (bytesEach κ s f) (f * partBytes s)) (sym (h .kind))
+          (a-within s f j b (h .plain) (f * partBytes s) hj)
       go (inr h) =
-          subst (λ (κ : Kind). Within (shareOf s j b) (runLength s) (bytesEach κ s f) (f * partBytes s)) (sym (h .kind)) (b-within s f j b good (h .prepared) (h .marked) hj hb)
+          subst (λ (κ : Kind). Within (shareOf s j b) (runLength s) (bytesEach κ s f) (f * partBytes s)) (sym (h .kind))
+          (b-within s f j b good (h .prepared) (h .marked) hj hb)
 
   share-same : (j b e : ℕ) (xs rs : List ℕ) → j < f → b < runs s → e < runLength s → IsRows s f xs rs
       → shareAt (shareOf s j b) xs rs e ≡ share (kindOf s f) s xs j (b * runLength s + e)
@@ -179,7 +182,8 @@ module _ (s : Shape) (f : ℕ) (reads : ReadsParity s f) where
       go (inl h) =
           subst (λ (κ : Kind). shareAt (shareOf s j b) xs rs e ≡ share κ s xs j (b * runLength s + e)) (sym (h .kind)) (a-same s f j b (h .plain) xs rs e hb)
       go (inr h) =
-          subst (λ (κ : Kind). shareAt (shareOf s j b) xs rs e ≡ share κ s xs j (b * runLength s + e)) (sym (h .kind)) (b-same s f j b good (h .prepared) (h .marked) hj hb xs rs e he rows)
+          subst (λ (κ : Kind). shareAt (shareOf s j b) xs rs e ≡ share κ s xs j (b * runLength s + e)) (sym (h .kind))
+          (b-same s f j b good (h .prepared) (h .marked) hj hb xs rs e he rows)
 
 -- ---- run by run
 
@@ -251,7 +255,8 @@ module _ (s : Shape) (f : ℕ) (reads : ReadsParity s f) (first : Bool) (xs rs y
       inside : (e : ℕ) → e < Q → getD (putMid (i * Q) (i * Q + Q - i * Q) zs ws) (i * Q + e) 0 ≡ getD (taken s f first xs ys) (i * Q + e) 0
       inside e l =
           back-inside zs ws (i * Q) Q ws-long room e l ∙ v .at e (omega (arith, part-long))
-          ∙ ap (λ (x : ℕ). stays first (i / R * s .k) x ⊕ shareAt (shareOf s (i / R) (i % R)) xs rs e) (part-at zs (i * Q) Q e l ∙ w .above (i * Q + e) (omega arith))
+          ∙ ap (λ (x : ℕ). stays first (i / R * s .k) x ⊕ shareAt (shareOf s (i / R) (i % R)) xs rs e)
+          (part-at zs (i * Q) Q e l ∙ w .above (i * Q + e) (omega arith))
           ∙ sym (taken-at i e h l)
 
       go : (x : ℕ) → x < (i + 1) * Q → (x < i * Q) ⊎ (i * Q ≤ x) → getD (putMid (i * Q) (i * Q + Q - i * Q) zs ws) x 0 ≡ getD (taken s f first xs ys) x 0

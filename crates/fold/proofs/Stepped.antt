@@ -12,7 +12,7 @@ use Rattle.lanes.proofs.Onto.{onto-length, onto-at}
 use Rattle.lanes.proofs.Parts.{part-length, part-at}
 use Rattle.fold.specs.declared.shares.Share.{Share}
 use Rattle.fold.specs.declared.shares.Share.the-variants.{Read, Row, Both}
-use Rattle.fold.specs.Shares.{shareAt, Within, stays, Summed}
+use Rattle.fold.specs.Shares.{shareAt, Within, stays, stepped, Summed}
 
 onto-is : (f g : ℕ → ℕ → ℕ) (xs ys : List ℕ) → ((x y : ℕ) → f x y ≡ g x y) → onto f xs ys ≡ onto g xs ys
 unfolding onto
@@ -59,21 +59,21 @@ module _ (σ : Share) (d rs xs : List ℕ) (within : Within σ (length xs) (leng
 
   module _ (first : Bool) (w : ℕ) where
     pub read-done : (at : ℕ) (ys : List ℕ) → σ ≡ Read at
-        → ys ≡ onto (λ (x y : ℕ). stays first w x ⊕ y) xs (take (at + length xs - at) (drop at d)) → Summed first w (shareAt σ d rs) xs ys
+        → ys ≡ stepped first w xs d at → Summed first w (shareAt σ d rs) xs ys
     unfolding shareAt
     read-done at ys e is =
         subst (λ (τ : Share). Summed first w (shareAt τ d rs) xs ys) (sym e)
         record { long = step-long first w xs d ys at (length xs) refl (read-in at e) is; at = step-at first w xs d ys at (length xs) refl (read-in at e) is }
 
     pub row-done : (at : ℕ) (ys : List ℕ) → σ ≡ Row at
-        → ys ≡ onto (λ (x y : ℕ). stays first w x ⊕ y) xs (take (at + length xs - at) (drop at rs)) → Summed first w (shareAt σ d rs) xs ys
+        → ys ≡ stepped first w xs rs at → Summed first w (shareAt σ d rs) xs ys
     unfolding shareAt
     row-done at ys e is =
         subst (λ (τ : Share). Summed first w (shareAt τ d rs) xs ys) (sym e)
         record { long = step-long first w xs rs ys at (length xs) refl (row-in at e) is; at = step-at first w xs rs ys at (length xs) refl (row-in at e) is }
 
     pub both-done : (at from : ℕ) (ys zs : List ℕ) → σ ≡ Both at from
-        → ys ≡ onto (λ (x y : ℕ). stays first w x ⊕ y) xs (take (at + length xs - at) (drop at d))
+        → ys ≡ stepped first w xs d at
         → zs ≡ onto (λ (x y : ℕ). x ⊕ y) ys (take (from + length xs - from) (drop from rs)) → Summed first w (shareAt σ d rs) xs zs
     unfolding shareAt
     both-done at from ys zs e is js =
@@ -81,8 +81,10 @@ module _ (σ : Share) (d rs xs : List ℕ) (within : Within σ (length xs) (leng
         record {
           long = ap length js ∙ onto-length (λ (x y : ℕ). x ⊕ y) ys _ ∙ ys-long;
           at = λ o l. ap (λ (v : List ℕ). getD v o 0) js
-              ∙ onto-at (λ (x y : ℕ). x ⊕ y) ys (take (from + length xs - from) (drop from rs)) o (omega (arith, ys-long)) (omega (arith, part-length rs from (length xs) (both-in at from e .1)))
-              ∙ ap₂ (λ (u v : ℕ). u ⊕ v) (step-at first w xs d ys at (length xs) refl (both-in at from e .0) is o l) (part-at rs from (length xs) o (omega arith))
+              ∙ onto-at (λ (x y : ℕ). x ⊕ y) ys (take (from + length xs - from) (drop from rs)) o (omega (arith, ys-long))
+              (omega (arith, part-length rs from (length xs) (both-in at from e .1)))
+              ∙ ap₂ (λ (u v : ℕ). u ⊕ v) (step-at first w xs d ys at (length xs) refl (both-in at from e .0) is o l)
+              (part-at rs from (length xs) o (omega arith))
               ∙ add-assoc _ _ _;
         }
       where

@@ -94,7 +94,8 @@ module _ (s : Shape) (f m n : ℕ) (d : List ℕ) (bytes : Bytes d) (l : ℕ) wh
   sum-first ys zs e is =
       is ∙ ap (λ (xs : List ℕ). taken s f true xs ys) part-same ∙ taken-first s f _ (bytes-part m (l * m) d bytes) ys
       ∙ ap (foldStripes s f)
-      (sym (part-is m n d l (omega arith) ∙ ap (λ (xss : List (List ℕ)). take m (drop (l * m) d) ∷ xss) (drop-of-length-le (parts m n d) {i = suc l} (omega (arith, parts-count m n d)))))
+      (sym (part-is m n d l (omega arith)
+      ∙ ap (λ (xss : List (List ℕ)). take m (drop (l * m) d) ∷ xss) (drop-of-length-le (parts m n d) {i = suc l} (omega (arith, parts-count m n d)))))
 
   sum-next : (ys zs : List ℕ) → l + 1 ≤ n → ys ≡ from s f m n d (l + 1)
       → zs ≡ taken s f false (take (l * m + m - l * m) (drop (l * m) d)) ys → zs ≡ from s f m n d l

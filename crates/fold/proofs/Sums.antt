@@ -77,7 +77,8 @@ module _ (xs ys : List ℕ) (l p k m : ℕ) (e : length xs ≡ k * l) (hp : p < 
   pub across-append : across (xs ++ ys) l p 0 (k + m) ≡ across xs l p 0 k ++ across ys l p 0 m
   across-append =
       ext-getD 0 _ _
-      (across-length (xs ++ ys) l p 0 (k + m) ∙ sym (length-append (across xs l p 0 k) (across ys l p 0 m) ∙ ap₂ _+_ (across-length xs l p 0 k) (across-length ys l p 0 m)))
+      (across-length (xs ++ ys) l p 0 (k + m)
+      ∙ sym (length-append (across xs l p 0 k) (across ys l p 0 m) ∙ ap₂ _+_ (across-length xs l p 0 k) (across-length ys l p 0 m)))
       (λ i h. at i (subst (λ (x : ℕ). i < x) (across-length (xs ++ ys) l p 0 (k + m)) h) (below-or-from i k))
     where
       at : (i : ℕ) → i < k + m → (i < k) ⊎ (k ≤ i) → getD (across (xs ++ ys) l p 0 (k + m)) i 0 ≡ getD (across xs l p 0 k ++ across ys l p 0 m) i 0

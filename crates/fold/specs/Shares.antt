@@ -1,14 +1,15 @@
--- How a fold that reads parity, kind A or B, is computed: stripe by stripe, from the last to the first, and run by run of the wide parity. What a
--- stripe adds to a run is stored in the bytes read of it, in the rows of its data, or in both.
+-- How a fold that reads parity, kind A or B, is computed: stripe by stripe, from the last to the first, and run by run of the wide parity.
+-- What a stripe adds to a run is stored in the bytes read of it, in the rows of its data, or in both.
 use Prim.Native.Nat.{ℕ, _+_, _-_, _*_, _/_, _%_, _<_, _≤_}
 use mathlib.Core.Path.{_≡_}
 use mathlib.Core.Bool.{Bool, true, cond}
 use mathlib.Core.List.{List}
 use lib.Dec.{ltb, eqb}
-use lib.ListN.{length, getD}
+use lib.ListN.{length, getD, take, drop}
 use Rattle.field.specs.Field.{_⊕_, _⊗_, gpow}
 use Rattle.field.specs.Bytes.{tabulate}
 use Rattle.field.specs.Row.{row}
+use Rattle.lanes.specs.Lanes.{onto}
 use Rattle.stripe.specs.declared.Shape.{Shape}
 use Rattle.stripe.specs.Shape.{shapeRefusal}
 use Rattle.stripe.specs.Stripe.{across, runLength}
@@ -44,6 +45,10 @@ Within (Both at from) q m n = (at + q ≤ m) × (from + q ≤ n)
 -- what stays of byte x as a stripe is taken in: nothing if it is the first to be, else x times g^w
 unfoldable pub stays : Bool → ℕ → ℕ → ℕ
 stays first w x = cond first 0 (gpow w ⊗ x)
+
+-- what stays of the bytes of xs, and as many bytes of ds from `at` on, place by place
+abbrev pub stepped : Bool → ℕ → List ℕ → List ℕ → ℕ → List ℕ
+stepped first w xs ds at = onto (λ (x y : ℕ). stays first w x ⊕ y) xs (take (at + length xs - at) (drop at ds))
 
 -- ys is what stays of xs, and v e, at each place e
 pub record Summed (first : Bool) (w : ℕ) (v : ℕ → ℕ) (xs ys : List ℕ) : Type 0 where

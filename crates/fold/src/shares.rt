@@ -1,11 +1,9 @@
 // Sums over stripes, a run of a wide row at a time: the run is multiplied by the stripe's weight, and what the stripe adds is added.
 // Every share is stored, so each step goes over whole runs.
 ghost use mathlib.Core.Path.{_≡_};
-ghost use Prim.Native.Nat.{ℕ, _+_, _-_, _≤_};
-ghost use lib.ListN.{length, take, drop};
-ghost use Rattle.field.specs.Field.{_⊕_};
-ghost use Rattle.lanes.specs.Lanes.{onto};
-ghost use Rattle.fold.specs.Shares.{shareAt, Within, stays, Summed};
+ghost use Prim.Native.Nat.{_+_, _≤_};
+ghost use lib.ListN.{length};
+ghost use Rattle.fold.specs.Shares.{shareAt, Within, stepped, Summed};
 
 // What a stripe adds to a run: bytes read of it, from an offset on; bytes of its rows, from an offset on; or both.
 pub enum Share {
@@ -17,7 +15,7 @@ pub enum Share {
 // What stays of the run, nothing or g^w times it, and at each place the byte of the second from `at` on.
 fn take_bytes(acc: &mut [u8], first: bool, w: usize, d: &[u8], at: usize)
     requires { ⌜ at + length (now acc) ≤ length (now d) ⌝ }
-    ensures { λ _. ⌜ now (acc .exit) ≡ onto (λ (x y : ℕ). stays first w x ⊕ y) (now (acc .entry)) (take (at + length (now (acc .entry)) - at) (drop at (now (d .entry)))) ⌝ }
+    ensures { λ _. ⌜ now (acc .exit) ≡ stepped first w (now (acc .entry)) (now (d .entry)) at ⌝ }
 {
     let end = at + acc.len();
     let part = &d[at..end];

@@ -27,7 +27,8 @@ onto d Malformed = Malformed
 unfoldable pub groupsAt : ℕ → List ℕ → ℕ → Number
 groupsAt zero s at = Malformed
 groupsAt (suc m) s at =
-    cond (ltb at (length s)) (cond (ltb (getD s at 0) 128) (Value (getD s at 0) (at + 1)) (onto (getD s at 0 - 128) (groupsAt m s (at + 1)))) Cut
+    cond (ltb at (length s))
+    (cond (ltb (getD s at 0) 128) (Value (getD s at 0) (at + 1)) (onto (getD s at 0 - 128) (groupsAt m s (at + 1)))) Cut
 
 -- a number is at most 2^32-1
 abbrev pub limited : Number → Number

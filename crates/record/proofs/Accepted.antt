@@ -20,7 +20,8 @@ use Rattle.number.specs.declared.Number.the-variants.{Value, Cut, Malformed}
 use Rattle.record.specs.declared.read.Verdict.the-variants.{Lawful, Refused}
 use Rattle.number.specs.Number.{numberAt, numberRefusal, groupsAt, valueOf, nextOf}
 use Rattle.record.specs.Layout.{kept}
-use Rattle.record.specs.Reading.{unless, fourthNumber, countNumber, shapeRead, countOf, lostListed, columnsStart, headRefusal, positionRefusal, positionsRefusal, positionsAt, afterPositions, columnsRefusal, restRefusal, contentRefusal, verdictOf}
+use Rattle.record.specs.Reading.{unless, fourthNumber, countNumber, shapeRead, countOf, lostListed, columnsStart, headRefusal, positionRefusal}
+use Rattle.record.specs.Reading.{positionsRefusal, positionsAt, afterPositions, columnsRefusal, restRefusal, contentRefusal, verdictOf}
 use Rattle.number.proofs.Groups.{View, view, ended, last, more, onto-value}
 use Rattle.number.proofs.Written.{limited-value}
 use Rattle.record.proofs.Refusals.{first-zero, head-described, described}
@@ -70,8 +71,12 @@ unfolding positionsAt Ascending
 positions-ascend s n zero least at e = tt
 positions-ascend s n (suc m) least at e =
     let a = positions-zero s n m least at e in
-    let p = position-zero (numberAt s at) least n (a .0) in
-    (p .1, p .2, subst (λ (x : ℕ). Ascending x n (positionsAt s m (nextOf (numberAt s at)))) (add-one (valueOf (numberAt s at))) (positions-ascend s n m (valueOf (numberAt s at) + 1) (nextOf (numberAt s at)) (a .1)))
+    let p = position-zero (numberAt s at) least n (a .0) in (
+      p .1,
+      p .2,
+      subst (λ (x : ℕ). Ascending x n (positionsAt s m (nextOf (numberAt s at)))) (add-one (valueOf (numberAt s at)))
+          (positions-ascend s n m (valueOf (numberAt s at) + 1) (nextOf (numberAt s at)) (a .1)),
+    )
 
 pub positions-within : (s : List ℕ) (n m least at : ℕ) → positionsRefusal s n m least at ≡ 0 → at ≤ length s → afterPositions s m at ≤ length s
 unfolding afterPositions
@@ -166,7 +171,8 @@ pub lawful-says : (s : List ℕ) (sh : Shape) (m f e : ℕ) → Lawful sh m f e 
     → (contentRefusal s ≡ 0) × (sh ≡ shapeRead s) × (m ≡ countOf s) × (f ≡ nextOf (countNumber s)) × (e ≡ columnsStart s)
 lawful-says s sh m f e q = go (eqb (contentRefusal s) 0) refl q
   where
-    go : (b : Bool) → eqb (contentRefusal s) 0 ≡ b → Lawful sh m f e ≡ cond b (Lawful (shapeRead s) (countOf s) (nextOf (countNumber s)) (columnsStart s)) (Refused (contentRefusal s))
+    go : (b : Bool) → eqb (contentRefusal s) 0 ≡ b
+        → Lawful sh m f e ≡ cond b (Lawful (shapeRead s) (countOf s) (nextOf (countNumber s)) (columnsStart s)) (Refused (contentRefusal s))
         → (contentRefusal s ≡ 0) × (sh ≡ shapeRead s) × (m ≡ countOf s) × (f ≡ nextOf (countNumber s)) × (e ≡ columnsStart s)
     go true p w = (eqb-true (contentRefusal s) 0 p, cc, cc, cc, cc)
     go false p w = absurd (let z : _≡_ {A = ℕ} 0 1 = cc in omega arith)
@@ -174,7 +180,8 @@ lawful-says s sh m f e q = go (eqb (contentRefusal s) 0) refl q
 pub refused-says : (s : List ℕ) (num : ℕ) → Refused num ≡ verdictOf s → (num ≡ contentRefusal s) × (num ≡ 0 → ⊥)
 refused-says s num q = go (eqb (contentRefusal s) 0) refl q
   where
-    go : (b : Bool) → eqb (contentRefusal s) 0 ≡ b → Refused num ≡ cond b (Lawful (shapeRead s) (countOf s) (nextOf (countNumber s)) (columnsStart s)) (Refused (contentRefusal s))
+    go : (b : Bool) → eqb (contentRefusal s) 0 ≡ b
+        → Refused num ≡ cond b (Lawful (shapeRead s) (countOf s) (nextOf (countNumber s)) (columnsStart s)) (Refused (contentRefusal s))
         → (num ≡ contentRefusal s) × (num ≡ 0 → ⊥)
     go true p w = absurd (let z : _≡_ {A = ℕ} 0 1 = cc in omega arith)
     go false p w =

@@ -12,7 +12,8 @@ use Rattle.stripe.specs.Shape.{columns, stripeLength}
 use Rattle.stripe.specs.Stripe.{among}
 use Rattle.number.specs.Number.{numberAt, numberRefusal, written, valueOf, nextOf}
 use Rattle.record.specs.Layout.{positionsWritten, survivors, kept, restored, recordHead, recordOf}
-use Rattle.record.specs.Reading.{firstNumber, secondNumber, thirdNumber, fourthNumber, countNumber, shapeRead, countOf, lostListed, columnsStart, headRefusal, positionsRefusal, positionsAt, afterPositions, contentRefusal, columnsFilled}
+use Rattle.record.specs.Reading.{firstNumber, secondNumber, thirdNumber, fourthNumber, countNumber, shapeRead, countOf, lostListed, columnsStart}
+use Rattle.record.specs.Reading.{headRefusal, positionsRefusal, positionsAt, afterPositions, contentRefusal, columnsFilled}
 use Rattle.number.proofs.Written.{only-written}
 use Rattle.record.proofs.Survivors.{restored-lost, restored-kept, survivors-lost, survivors-kept}
 use Rattle.record.proofs.Refusals.{first-zero}
@@ -22,10 +23,12 @@ use Rattle.record.proofs.Listing.{positions-length}
 -- ---- the head
 
 -- a number that was read, and what follows it
-number-splits : (s : List ℕ) (at : ℕ) → Bytes s → numberRefusal (numberAt s at) ≡ 0 → drop at s ≡ written (valueOf (numberAt s at)) ++ drop (nextOf (numberAt s at)) s
+number-splits : (s : List ℕ) (at : ℕ) → Bytes s → numberRefusal (numberAt s at) ≡ 0
+    → drop at s ≡ written (valueOf (numberAt s at)) ++ drop (nextOf (numberAt s at)) s
 number-splits s at h e = only-written s at (valueOf (numberAt s at)) (nextOf (numberAt s at)) h (number-is (numberAt s at) e) .2
 
-positions-split : (s : List ℕ) (n m least at : ℕ) → Bytes s → positionsRefusal s n m least at ≡ 0 → drop at s ≡ positionsWritten (positionsAt s m at) ++ drop (afterPositions s m at) s
+positions-split : (s : List ℕ) (n m least at : ℕ) → Bytes s → positionsRefusal s n m least at ≡ 0
+    → drop at s ≡ positionsWritten (positionsAt s m at) ++ drop (afterPositions s m at) s
 unfolding positionsWritten positionsAt afterPositions
 positions-split s n zero least at h e = refl
 positions-split s n (suc m) least at h e =
@@ -68,7 +71,8 @@ head-splits s h w =
     ∙ ap (λ (ys : List ℕ). k ++ (r ++ (t ++ ys))) (number-splits s (nextOf (thirdNumber s)) h (n .four))
     ∙ ap (λ (ys : List ℕ). k ++ (r ++ (t ++ (l ++ ys)))) (number-splits s (nextOf (fourthNumber s)) h (w .count-read))
     ∙ ap (λ (x : ℕ). k ++ (r ++ (t ++ (l ++ (written x ++ drop (nextOf (countNumber s)) s))))) (sym (positions-length s (countOf s) (nextOf (countNumber s))))
-    ∙ ap (λ (ys : List ℕ). k ++ (r ++ (t ++ (l ++ (m ++ ys))))) (positions-split s (columns (shapeRead s)) (countOf s) 0 (nextOf (countNumber s)) h (w .positions-read))
+    ∙ ap (λ (ys : List ℕ). k ++ (r ++ (t ++ (l ++ (m ++ ys)))))
+    (positions-split s (columns (shapeRead s)) (countOf s) 0 (nextOf (countNumber s)) h (w .positions-read))
     ∙ joined k r t l m (positionsWritten (lostListed s)) (drop (columnsStart s) s)
 
 -- ---- the columns
@@ -86,7 +90,8 @@ survivors-restored l c (suc m) es ys xs e h =
   where
     go : (b : Bool) → among c es ≡ b
         → (length ys ≡ kept es (suc c) m * l → m * l ≤ length (drop l xs) → survivors l es (suc c) m (restored l es (suc c) m ys (drop l xs)) ≡ ys)
-        → (length (drop l ys) ≡ kept es (suc c) m * l → m * l ≤ length (drop l xs) → survivors l es (suc c) m (restored l es (suc c) m (drop l ys) (drop l xs)) ≡ drop l ys)
+        → (length (drop l ys) ≡ kept es (suc c) m * l → m * l ≤ length (drop l xs)
+        → survivors l es (suc c) m (restored l es (suc c) m (drop l ys) (drop l xs)) ≡ drop l ys)
         → survivors l es c (suc m) (restored l es c (suc m) ys xs) ≡ ys
     go true a stay next =
         let q = suc-mul m l in
@@ -113,11 +118,13 @@ survivors-restored l c (suc m) es ys xs e h =
 pub columns-enough : (s : List ℕ) → Accepted s → length (drop (columnsStart s) s) ≡ kept (lostListed s) 0 (columns (shapeRead s)) * shapeRead s .l
 columns-enough s w =
     let k = kept-lost (columns (shapeRead s)) (columns (shapeRead s)) 0 (lostListed s) (w .ascending) (omega arith) in
-    let q : columns (shapeRead s) - countOf s ≡ kept (lostListed s) 0 (columns (shapeRead s)) = omega (arith, positions-length s (countOf s) (nextOf (countNumber s))) in
+    let q : columns (shapeRead s) - countOf s ≡ kept (lostListed s) 0 (columns (shapeRead s)) =
+    omega (arith, positions-length s (countOf s) (nextOf (countNumber s))) in
     length-drop (columnsStart s) s ∙ w .exact ∙ ap (λ (n : ℕ). n * shapeRead s .l) q
 
 -- writing what was read gives the same bytes: an accepted record is the record of its shape, its lost columns and its stripe
-pub accepts-only : (s xs : List ℕ) → Bytes s → contentRefusal s ≡ 0 → stripeLength (shapeRead s) ≤ length xs → s ≡ recordOf (shapeRead s) (lostListed s) (columnsFilled s xs)
+pub accepts-only : (s xs : List ℕ) → Bytes s → contentRefusal s ≡ 0 → stripeLength (shapeRead s) ≤ length xs
+    → s ≡ recordOf (shapeRead s) (lostListed s) (columnsFilled s xs)
 unfolding recordOf
 accepts-only s xs h e room =
     let w = accepted s e in

@@ -16,7 +16,8 @@ use Rattle.record.specs.declared.read.Got.{Got}
 use Rattle.record.specs.declared.read.Verdict.the-variants.{Lawful}
 use Rattle.record.specs.Layout.{kept, restored}
 use Rattle.number.specs.Number.{nextOf}
-use Rattle.record.specs.Reading.{unless, countNumber, shapeRead, countOf, lostListed, columnsStart, positionsAt, contentRefusal, verdictOf, readRefusal, gotOf, columnsFilled, positionsFilled, stripeRead, lostRead}
+use Rattle.record.specs.Reading.{unless, countNumber, shapeRead, countOf, lostListed, columnsStart, positionsAt, contentRefusal, verdictOf, readRefusal}
+use Rattle.record.specs.Reading.{gotOf, columnsFilled, positionsFilled, stripeRead, lostRead}
 use Rattle.record.proofs.Refusals.{stop, skip, only, passed, failed}
 use Rattle.record.proofs.Accepted.{Accepted, accepted, lawful-says, ascending-below, kept-lost}
 use Rattle.record.proofs.Listing.{positions-length}
@@ -47,7 +48,10 @@ module _ (s : List ℕ) (sh : Shape) (m f e : ℕ) (law : Lawful sh m f e ≡ ve
   lost-is = ap₂ (positionsAt s) (says .2) (says .3)
 
   pub fill-small : (i : ℕ) → getD (positionsAt s m f) i 0 < 65536
-  fill-small i = subst (λ (es : List ℕ). getD es i 0 < 65536) (sym lost-is) (⊎-elim (λ l. omega (arith, fill-columns-few, wide)) (λ z. omega arith) (ascending-below 0 (columns (shapeRead s)) (lostListed s) (good .ascending) i))
+  fill-small i =
+      subst (λ (es : List ℕ). getD es i 0 < 65536) (sym lost-is)
+      (⊎-elim (λ l. omega (arith, fill-columns-few, wide)) (λ z. omega arith)
+      (ascending-below 0 (columns (shapeRead s)) (lostListed s) (good .ascending) i))
 
   pub fill-front : (es lost : List ℕ) → lost ≡ over es 0 (positionsAt s m f) → take m lost ≡ lostListed s
   fill-front es lost q =
@@ -57,7 +61,12 @@ module _ (s : List ℕ) (sh : Shape) (m f e : ℕ) (law : Lawful sh m f e ≡ ve
   fill-rest = take-all (length s - e) (drop e s) (omega (arith, length-drop e s)) ∙ ap (λ (n : ℕ). drop n s) (says .4)
 
   survive : kept (lostListed s) 0 (columns (shapeRead s)) ≡ columns (shapeRead s) - countOf s
-  survive = omega (arith, kept-lost (columns (shapeRead s)) (columns (shapeRead s)) 0 (lostListed s) (good .ascending) (omega arith), positions-length s (countOf s) (nextOf (countNumber s)))
+  survive =
+      omega (
+        arith,
+        kept-lost (columns (shapeRead s)) (columns (shapeRead s)) 0 (lostListed s) (good .ascending) (omega arith),
+        positions-length s (countOf s) (nextOf (countNumber s)),
+      )
 
   pub fill-bytes : (es : List ℕ) → es ≡ lostListed s → kept es 0 (columns sh) * sh .l ≤ length (take (length s - e) (drop e s))
   fill-bytes es q =
@@ -70,7 +79,8 @@ module _ (s : List ℕ) (sh : Shape) (m f e : ℕ) (law : Lawful sh m f e ≡ ve
         ap (λ (n : ℕ). n * shapeRead s .l) survive,
       )
 
-  pub fill-columns-is : (es xs xs′ : List ℕ) → es ≡ lostListed s → xs′ ≡ restored (sh .l) es 0 (columns sh) (take (length s - e) (drop e s)) xs → xs′ ≡ columnsFilled s xs
+  pub fill-columns-is : (es xs xs′ : List ℕ) → es ≡ lostListed s → xs′ ≡ restored (sh .l) es 0 (columns sh) (take (length s - e) (drop e s)) xs
+      → xs′ ≡ columnsFilled s xs
   fill-columns-is es xs xs′ q w =
       w ∙ ap₂ (λ (x : List ℕ) (v : Shape). restored (v .l) x 0 (columns v) (take (length s - e) (drop e s)) xs) q (says .1)
       ∙ ap (λ (ys : List ℕ). restored (shapeRead s .l) (lostListed s) 0 (columns (shapeRead s)) ys xs) fill-rest
@@ -120,7 +130,8 @@ read-refused s xs es num g e q z =
     let b = ne-eqb (readRefusal s (length xs) (length es)) 0 (λ y. z (q ∙ y)) in
     (e ∙ rw (b, q), (rw b, rw b))
 
-pub read-accepted : (s xs es xs′ es′ : List ℕ) (g : Got) → readRefusal s (length xs) (length es) ≡ 0 → g ≡ record { number = 0; shape = shapeRead s; lost = countOf s }
+pub read-accepted : (s xs es xs′ es′ : List ℕ) (g : Got) → readRefusal s (length xs) (length es) ≡ 0
+    → g ≡ record { number = 0; shape = shapeRead s; lost = countOf s }
     → xs′ ≡ columnsFilled s xs → es′ ≡ positionsFilled s es
     → (g ≡ gotOf s (length xs) (length es)) × ((xs′ ≡ stripeRead s xs (length es)) × (es′ ≡ lostRead s (length xs) es))
 read-accepted s xs es xs′ es′ g z e p q =

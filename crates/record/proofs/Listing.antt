@@ -33,7 +33,8 @@ positions-length s zero at = refl
 positions-length s (suc m) at = ap suc (positions-length s m (nextOf (numberAt s at)))
 
 -- the positions from the i-th on, and the next of them
-pub positions-next : (s : List ℕ) (m i at : ℕ) → i < m → positionsAt s (m - i) at ≡ valueOf (numberAt s at) ∷ positionsAt s (m - (i + 1)) (nextOf (numberAt s at))
+pub positions-next : (s : List ℕ) (m i at : ℕ) → i < m
+    → positionsAt s (m - i) at ≡ valueOf (numberAt s at) ∷ positionsAt s (m - (i + 1)) (nextOf (numberAt s at))
 unfolding positionsAt
 positions-next s m i at h =
     let e : m - i ≡ suc (m - (i + 1)) = omega arith in

@@ -16,7 +16,9 @@ use Rattle.record.specs.declared.read.Head.the-variants.{Shaped, Unshape
 use Rattle.record.specs.declared.read.Listed.the-variants.{Upto, Unlisted}
 use Rattle.record.specs.declared.read.Verdict.the-variants.{Lawful, Refused}
 use Rattle.number.specs.Number.{numberAt, numberRefusal, valueOf, nextOf}
-use Rattle.record.specs.Reading.{firstOf, unless, firstNumber, secondNumber, thirdNumber, fourthNumber, countNumber, shapeRead, countOf, columnsStart, stripeRefusal, headRefusal, positionRefusal, positionsRefusal, afterPositions, columnsRefusal, restRefusal, contentRefusal, headOf, listedOf, restOf, verdictOf}
+use Rattle.record.specs.Reading.{firstOf, unless, firstNumber, secondNumber, thirdNumber, fourthNumber, countNumber, shapeRead, countOf, columnsStart}
+use Rattle.record.specs.Reading.{stripeRefusal, headRefusal, positionRefusal, positionsRefusal, afterPositions, columnsRefusal, restRefusal}
+use Rattle.record.specs.Reading.{contentRefusal, headOf, listedOf, restOf, verdictOf}
 
 -- ---- the first of several
 
@@ -141,13 +143,16 @@ module _ (s : List ℕ) (n left least at : ℕ) (some : 0 < left) where
 
   pub positions-stop : (num : ℕ) → num ≡ positionRefusal (numberAt s at) least n → (num ≡ 0 → ⊥) → num ≡ positionsRefusal s n left least at
   unfolding positionsRefusal
-  positions-stop num e z = stop num _ (positionsRefusal s n (left - 1) (valueOf (numberAt s at) + 1) (nextOf (numberAt s at)) ∷ []) e z ∙ ap (λ (m : ℕ). positionsRefusal s n m least at) (sym one-left)
+  positions-stop num e z =
+      stop num _ (positionsRefusal s n (left - 1) (valueOf (numberAt s at) + 1) (nextOf (numberAt s at)) ∷ []) e z
+      ∙ ap (λ (m : ℕ). positionsRefusal s n m least at) (sym one-left)
 
   pub positions-turn : positionRefusal (numberAt s at) least n ≡ 0
       → positionsRefusal s n (left - 1) (valueOf (numberAt s at) + 1) (nextOf (numberAt s at)) ≡ positionsRefusal s n left least at
   unfolding positionsRefusal
   positions-turn e =
-      only (positionsRefusal s n (left - 1) (valueOf (numberAt s at) + 1) (nextOf (numberAt s at))) ∙ skip _ _ e ∙ ap (λ (m : ℕ). positionsRefusal s n m least at) (sym one-left)
+      only (positionsRefusal s n (left - 1) (valueOf (numberAt s at) + 1) (nextOf (numberAt s at))) ∙ skip _ _ e
+      ∙ ap (λ (m : ℕ). positionsRefusal s n m least at) (sym one-left)
 
   pub after-turn : afterPositions s (left - 1) (nextOf (numberAt s at)) ≡ afterPositions s left at
   unfolding afterPositions
@@ -194,7 +199,8 @@ module _ (s : List ℕ) (sh : Shape) (g : Number) where
       rest-positions num e z = stop num _ _ e z ∙ skip _ _ two ∙ skip _ _ one
 
       module _ (three : positionsRefusal s (columns sh) (valueOf g) 0 (nextOf g) ≡ 0) where
-        pub rest-columns : (num : ℕ) → num ≡ columnsRefusal (length s - afterPositions s (valueOf g) (nextOf g)) ((columns sh - valueOf g) * sh .l) → num ≡ restRefusal s sh g
+        pub rest-columns : (num : ℕ) → num ≡ columnsRefusal (length s - afterPositions s (valueOf g) (nextOf g)) ((columns sh - valueOf g) * sh .l)
+            → num ≡ restRefusal s sh g
         rest-columns num e = e ∙ only _ ∙ skip _ _ three ∙ skip _ _ two ∙ skip _ _ one
 
 -- ---- the answers

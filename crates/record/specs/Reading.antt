@@ -46,7 +46,8 @@ abbrev pub countNumber : List ℕ → Number
 countNumber s = numberAt s (nextOf (fourthNumber s))
 
 abbrev pub shapeRead : List ℕ → Shape
-shapeRead s = record { k = valueOf (firstNumber s); r = valueOf (secondNumber s); t = valueOf (thirdNumber s); l = valueOf (fourthNumber s) }
+shapeRead s =
+    record { k = valueOf (firstNumber s); r = valueOf (secondNumber s); t = valueOf (thirdNumber s); l = valueOf (fourthNumber s) }
 
 -- the refusal of a described stripe: its shape, then its bytes above 65,536
 unfoldable pub stripeRefusal : Shape → ℕ
@@ -142,8 +143,10 @@ listedOf s n m at = cond (eqb (positionsRefusal s n m 0 at) 0) (Upto (afterPosit
 
 abbrev pub restOf : List ℕ → Shape → Number → Verdict
 restOf s sh g =
-    cond (eqb (restRefusal s sh g) 0) (Lawful sh (valueOf g) (nextOf g) (afterPositions s (valueOf g) (nextOf g))) (Refused (restRefusal s sh g))
+    cond (eqb (restRefusal s sh g) 0) (Lawful sh (valueOf g) (nextOf g) (afterPositions s (valueOf g) (nextOf g)))
+    (Refused (restRefusal s sh g))
 
 abbrev pub verdictOf : List ℕ → Verdict
 verdictOf s =
-    cond (eqb (contentRefusal s) 0) (Lawful (shapeRead s) (countOf s) (nextOf (countNumber s)) (columnsStart s)) (Refused (contentRefusal s))
+    cond (eqb (contentRefusal s) 0) (Lawful (shapeRead s) (countOf s) (nextOf (countNumber s)) (columnsStart s))
+    (Refused (contentRefusal s))

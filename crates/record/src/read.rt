@@ -10,7 +10,8 @@ ghost use lib.ListN.{length, getD};
 ghost use Rattle.stripe.specs.Shape.{noShape};
 ghost use Rattle.field.specs.Bytes.{over};
 ghost use Rattle.number.specs.Number.{valueOf, nextOf};
-ghost use Rattle.record.specs.Reading.{stripeRefusal, headOf, positionRefusal, listedOf, columnsRefusal, restOf, verdictOf, positionsAt, columnsFilled, positionsFilled, gotOf, stripeRead, lostRead};
+ghost use Rattle.record.specs.Reading.{stripeRefusal, headOf, positionRefusal, listedOf, columnsRefusal, restOf, verdictOf};
+ghost use Rattle.record.specs.Reading.{positionsAt, columnsFilled, positionsFilled, gotOf, stripeRead, lostRead};
 
 // What reading reports: 0, the shape and the number of lost columns; or a refusal, and zeros.
 pub struct Got {

@@ -59,7 +59,8 @@ written-room s n f room = room-by (foldRefusal s n f) (columnsRead s n f) room _
 -- nor than the plan has
 pub written-plan : (s : Shape) (n f room : ℕ) → spansWritten s n f room ≤ length (plan s n f)
 unfolding spansWritten
-written-plan s n f room = subst (λ (x : ℕ). spansWritten s n f room ≤ x) (sym (columns-counted s n f)) (some-of (eqb (spansRefusal s n f room) 0) (columnsRead s n f))
+written-plan s n f room =
+    subst (λ (x : ℕ). spansWritten s n f room ≤ x) (sym (columns-counted s n f)) (some-of (eqb (spansRefusal s n f room) 0) (columnsRead s n f))
 
 -- when all are stored the list is as stated
 pub front-done : (s : Shape) (n f : ℕ) (xs : List Span) → front (plan s n f) (spansWritten s n f (length xs)) xs ≡ spansFilled s n f xs

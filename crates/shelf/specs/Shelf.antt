@@ -14,7 +14,7 @@ use Rattle.shelf.specs.declared.SpansAnswer.{SpansAnswer}
 abbrev pub shapeOf : ℕ → ℕ → ℕ → ℕ → Shape
 shapeOf k r t l = record { k = k; r = r; t = t; l = l }
 
--- the refusal of a call for the plan's spans, with a list of so many records: 1 to 4 for the fold, 5 where the list is shorter than the plan
+-- the refusal of a call for the plan's spans, with a list of so many records: 1 to 4 for the fold, 5 where the plan is longer than the list
 unfoldable pub spansRefusal : Shape → ℕ → ℕ → ℕ → ℕ
 spansRefusal s n f room = cond (eqb (foldRefusal s n f) 0) (cond (ltb room (columnsRead s n f)) 5 0) (foldRefusal s n f)
 

@@ -148,7 +148,8 @@ pub extern "C" fn shelf_plan_spans(
     f: u64,
     spans: &mut [Span],
 ) -> u32
-    ensures { λ v. ⌜ (v ≡ spansRefusal (shapeOf k r t l) stripes f (length (now (spans .entry)))) × (now (spans .exit) ≡ spansFilled (shapeOf k r t l) stripes f (now (spans .entry))) ⌝ }
+    ensures { λ v. ⌜ v ≡ spansRefusal (shapeOf k r t l) stripes f (length (now (spans .entry))) ⌝ }
+    ensures { λ _. ⌜ now (spans .exit) ≡ spansFilled (shapeOf k r t l) stripes f (now (spans .entry)) ⌝ }
 {
     let answer = spans_answer(k, r, t, l, stripes, f, spans.len());
     let n = answer.spans;

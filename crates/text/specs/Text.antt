@@ -4,6 +4,7 @@ use mathlib.Core.Bool.{Bool, cond, _&&_}
 use mathlib.Core.List.{List, [], _∷_, _++_}
 use lib.Dec.{leb, ltb, eqb}
 use lib.ListN.{length, take, drop}
+use Rattle.field.specs.Bytes.{over}
 use Rattle.stripe.specs.declared.Shape.{Shape}
 use Rattle.stripe.specs.Shape.{shapeRefusal, columns, stripeLength}
 use Rattle.stripe.specs.Stripe.{among}
@@ -75,6 +76,10 @@ printable s n room = eqb (shapeRefusal s) 0 && eqb n (stripeLength s) && leb n 6
 -- the text of a mended stripe where it can be printed, else none
 unfoldable pub stripePrinted : Shape → List ℕ → List ℕ → ℕ → List ℕ
 stripePrinted s es xs room = cond (printable s (length xs) room) (stripeText s es xs) []
+
+-- the output with it over its front
+abbrev pub stripeOver : Shape → List ℕ → List ℕ → List ℕ → List ℕ
+stripeOver s es xs out = over out 0 (stripePrinted s es xs (length out))
 
 -- room for the text of any refusal
 abbrev pub refusalRoom : ℕ

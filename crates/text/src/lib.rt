@@ -12,12 +12,12 @@ mod put;
 ghost use mathlib.Core.Path.{_≡_};
 ghost use lib.ListN.{length};
 ghost use Rattle.field.specs.Bytes.{over};
-ghost use Rattle.text.specs.Text.{printable, stripePrinted, refusalPrinted};
+ghost use Rattle.text.specs.Text.{printable, stripePrinted, stripeOver, refusalPrinted};
 
 // The text of a mended stripe of at most 65,536 bytes whose columns `lost` were restored, with room for 140,000 bytes.
 pub fn write_text(s: Shape, lost: &[u16], stripe: &[u8], out: &mut [u8]) -> usize
     ensures { λ v. ⌜ v ≡ length (stripePrinted s (now (lost .entry)) (now (stripe .entry)) (length (now (out .entry)))) ⌝ }
-    ensures { λ _. ⌜ now (out .exit) ≡ over (now (out .entry)) 0 (stripePrinted s (now (lost .entry)) (now (stripe .entry)) (length (now (out .entry)))) ⌝ }
+    ensures { λ _. ⌜ now (out .exit) ≡ stripeOver s (now (lost .entry)) (now (stripe .entry)) (now (out .entry)) ⌝ }
 {
     if !can_print(s, stripe.len(), out.len()) {
         return 0;

@@ -17,10 +17,12 @@ use Rattle.number.specs.declared.Number.the-variants.{Value}
 use Rattle.number.specs.Number.{numberAt, numberRefusal, written, valueOf, nextOf}
 use Rattle.writing.specs.Writing.{LaidOut}
 use Rattle.record.specs.Layout.{positionsWritten, survivors, kept, restored, recordOf}
-use Rattle.record.specs.Reading.{firstNumber, secondNumber, thirdNumber, fourthNumber, countNumber, shapeRead, countOf, lostListed, columnsStart, stripeRefusal, headRefusal, positionsRefusal, positionsAt, afterPositions, contentRefusal, columnsFilled}
+use Rattle.record.specs.Reading.{firstNumber, secondNumber, thirdNumber, fourthNumber, countNumber, shapeRead, countOf, lostListed, columnsStart, stripeRefusal}
+use Rattle.record.specs.Reading.{headRefusal, positionsRefusal, positionsAt, afterPositions, contentRefusal, columnsFilled}
 use Rattle.number.proofs.Written.{read-written}
 use Rattle.record.proofs.Survivors.{restored-lost, restored-kept, survivors-lost, survivors-kept}
-use Rattle.record.proofs.Refusals.{described, position-lawful, skip, only, shape-is, head-lawful, rest-columns, columns-exact, content-rest, stripe-lawful, stripe-shaped, head-described}
+use Rattle.record.proofs.Refusals.{described, position-lawful, skip, only, shape-is, head-lawful, rest-columns, columns-exact, content-rest, stripe-lawful}
+use Rattle.record.proofs.Refusals.{stripe-shaped, head-described}
 use Rattle.record.proofs.Accepted.{accepted}
 use Rattle.record.proofs.Exactly.{accepts-only, columns-enough, joined}
 use Rattle.writing.proofs.Putting.{mark-small, few-lost, survivors-bytes, head-is, record-is}
@@ -37,7 +39,9 @@ number-next s q at v h e =
     let n = read-written s q at v h e in
     record {
       value = n;
-      rest = ap (λ (g : Number). drop (nextOf g) s) n ∙ sym (drop-drop (length (written v)) at s) ∙ ap (drop (length (written v))) e ∙ drop-append-seam (written v) q;
+      rest =
+          ap (λ (g : Number). drop (nextOf g) s) n ∙ sym (drop-drop (length (written v)) at s) ∙ ap (drop (length (written v))) e
+          ∙ drop-append-seam (written v) q;
     }
 
 -- the positions
@@ -60,7 +64,8 @@ positions-next s n m least at e es q l h g r =
       after = r .after;
     }
 
-positions-read : (s : List ℕ) (n least at : ℕ) (es q : List ℕ) → n ≤ 4294967295 → Ascending least n es → drop at s ≡ positionsWritten es ++ q → Listed s n (length es) least at es q
+positions-read : (s : List ℕ) (n least at : ℕ) (es q : List ℕ) → n ≤ 4294967295 → Ascending least n es → drop at s ≡ positionsWritten es ++ q
+    → Listed s n (length es) least at es q
 unfolding positionsWritten Ascending positionsRefusal positionsAt afterPositions
 positions-read s n least at [] q b h e = record { lawful = refl; list = refl; after = e }
 positions-read s n least at (x ∷ es) q b h e =
@@ -121,7 +126,8 @@ module _ (sh : Shape) (es xs : List ℕ) (lawful : stripeRefusal sh ≡ 0) (asce
 
   head-zero : headRefusal s ≡ 0
   head-zero =
-      sym (head-lawful s (ap numberRefusal (one .value)) (ap numberRefusal (two .value)) (ap numberRefusal (three .value)) (ap numberRefusal (four .value)) (ap stripeRefusal (sym shape-back) ∙ lawful))
+      sym (head-lawful s (ap numberRefusal (one .value)) (ap numberRefusal (two .value)) (ap numberRefusal (three .value)) (ap numberRefusal (four .value))
+      (ap stripeRefusal (sym shape-back) ∙ lawful))
 
   wide : columns (shapeRead s) ≡ columns sh
   wide = ap (λ (v : Shape). columns v) (sym shape-back)
@@ -201,7 +207,8 @@ restored-byte l c (suc m) (suc j) p es xs ys hx hy hj hp a =
     ∙ getD-drop l xs (j * l + p) 0 ∙ ap (λ (i : ℕ). getD xs i 0) (sym e)
 
 -- reading what was written gives the surviving bytes: the stripe that was written and the filled buffer agree but for the lost columns
-pub bytes-back : (sh : Shape) (es xs ys : List ℕ) → stripeRefusal sh ≡ 0 → Ascending 0 (columns sh) es → length xs ≡ stripeLength sh → stripeLength sh ≤ length ys
+pub bytes-back : (sh : Shape) (es xs ys : List ℕ) → stripeRefusal sh ≡ 0 → Ascending 0 (columns sh) es → length xs ≡ stripeLength sh
+    → stripeLength sh ≤ length ys
     → Agree sh es xs (columnsFilled (recordOf sh es xs) ys)
 bytes-back sh es xs ys lawful ascending exact room c p hc hp a =
     sym (ap (λ (zs : List ℕ). getD zs (c * sh .l + p) 0) (filled-back sh es xs lawful ascending exact ys)
@@ -219,7 +226,8 @@ restored-one l c m es ys xs false a h k =
     ∙ ap (λ (n : ℕ). n + length (restored l es (suc c) m (drop l ys) (drop l xs))) (length-take-le l ys (k refl))
 
 left-over : (l k : ℕ) (ys : List ℕ) (b : Bool) → (cond b 0 1 + k) * l ≤ length ys → (k * l ≤ length (cond b ys (drop l ys))) × (b ≡ false → l ≤ length ys)
-left-over l k ys true h = (omega (arith, ap (λ (n : ℕ). n * l) (zero-add k)), λ e. absurd (let z : _≡_ {A = ℕ} 0 1 = ap (λ (x : Bool). cond x 0 1) e in omega arith))
+left-over l k ys true h =
+    (omega (arith, ap (λ (n : ℕ). n * l) (zero-add k)), λ e. absurd (let z : _≡_ {A = ℕ} 0 1 = ap (λ (x : Bool). cond x 0 1) e in omega arith))
 left-over l k ys false h =
     let e : (1 + k) * l ≡ suc k * l = ap (λ (n : ℕ). n * l) (omega arith) in
     (omega (arith, length-drop l ys, suc-mul k l), λ z. omega (arith, suc-mul k l))
@@ -236,7 +244,9 @@ restored-length l c (suc m) es ys xs hx hy =
 
 -- a record is accepted exactly when its bytes have the layout
 pub accepts : (bs : List ℕ) → LaidOut bs → contentRefusal bs ≡ 0
-accepts bs w = ap contentRefusal (w .bytes) ∙ accepted-back (w .shape) (w .lost) (w .stripe) (sym (stripe-lawful (w .shape) (w .allowed) (w .short))) (w .ascending) (w .exact)
+accepts bs w =
+    ap contentRefusal (w .bytes)
+    ∙ accepted-back (w .shape) (w .lost) (w .stripe) (sym (stripe-lawful (w .shape) (w .allowed) (w .short))) (w .ascending) (w .exact)
 
 pub accepts-no-other : (bs : List ℕ) → Bytes bs → contentRefusal bs ≡ 0 → LaidOut bs
 accepts-no-other bs h e =
@@ -251,6 +261,7 @@ accepts-no-other bs h e =
       short = w .stripe-short;
       ascending = w .ascending;
       exact =
-          restored-length (shapeRead bs .l) 0 (columns (shapeRead bs)) (lostListed bs) (drop (columnsStart bs) bs) room (omega (arith, long)) (omega (arith, columns-enough bs w)) ∙ long;
+          restored-length (shapeRead bs .l) 0 (columns (shapeRead bs)) (lostListed bs) (drop (columnsStart bs) bs) room (omega (arith, long))
+          (omega (arith, columns-enough bs w)) ∙ long;
       bytes = accepts-only bs room h e (omega (arith, long));
     }

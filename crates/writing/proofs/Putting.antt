@@ -70,7 +70,8 @@ pub positions-end : (xs : List ℕ) (i : ℕ) → length xs ≤ i → positionsW
 unfolding positionsWritten
 positions-end xs i h = ap positionsWritten (drop-of-length-le xs h)
 
-pub positions-bytes : (xs : List ℕ) (i : ℕ) → i < length xs → length (positionsWritten (drop i xs)) ≡ length (written (getD xs i 0)) + length (positionsWritten (drop (i + 1) xs))
+pub positions-bytes : (xs : List ℕ) (i : ℕ) → i < length xs
+    → length (positionsWritten (drop i xs)) ≡ length (written (getD xs i 0)) + length (positionsWritten (drop (i + 1) xs))
 positions-bytes xs i h = ap length (positions-here xs i h) ∙ length-append (written (getD xs i 0)) (positionsWritten (drop (i + 1) xs))
 
 pub positions-most : (xs : List ℕ) → length (positionsWritten xs) ≤ 5 * length xs
@@ -87,13 +88,24 @@ positions-turn out out′ xs at i h e =
 -- ---- how long a record is
 
 pub head-bytes : (s : Shape) (es : List ℕ)
-    → length (recordHead s es) ≡ length (written (s .k)) + length (written (s .r)) + length (written (s .t)) + length (written (s .l)) + length (written (length es)) + length (positionsWritten es)
+    → length (recordHead s es)
+    ≡ length (written (s .k)) + length (written (s .r)) + length (written (s .t)) + length (written (s .l)) + length (written (length es))
+    + length (positionsWritten es)
 unfolding recordHead
 head-bytes s es = simp length-append (omega arith)
 
 pub head-most : (s : Shape) (es : List ℕ) → length es ≤ 258 → length (recordHead s es) ≤ 1315
 head-most s es h =
-    omega (arith, head-bytes s es, groups-most 5 (s .k), groups-most 5 (s .r), groups-most 5 (s .t), groups-most 5 (s .l), groups-most 5 (length es), positions-most es)
+    omega (
+      arith,
+      head-bytes s es,
+      groups-most 5 (s .k),
+      groups-most 5 (s .r),
+      groups-most 5 (s .t),
+      groups-most 5 (s .l),
+      groups-most 5 (length es),
+      positions-most es,
+    )
 
 survivors-one : (l c m : ℕ) (es xs : List ℕ) (b : Bool) → among c es ≡ b → l ≤ length xs
     → length (survivors l es c (suc m) xs) ≡ cond b 0 1 * l + length (survivors l es (suc c) m (drop l xs))
@@ -132,7 +144,8 @@ pub put-then : (out out′ xs ys : List ℕ) (at at′ : ℕ) → out′ ≡ set
 put-then out out′ xs ys at at′ e p =
     ap₂ (λ (o : List ℕ) (n : ℕ). sets o n ys) e p ∙ sets-append xs ys out at
 
-pub head-is : (s : Shape) (es : List ℕ) → written (s .k) ++ (written (s .r) ++ (written (s .t) ++ (written (s .l) ++ (written (length es) ++ positionsWritten es)))) ≡ recordHead s es
+pub head-is : (s : Shape) (es : List ℕ)
+    → written (s .k) ++ (written (s .r) ++ (written (s .t) ++ (written (s .l) ++ (written (length es) ++ positionsWritten es)))) ≡ recordHead s es
 unfolding recordHead
 head-is s es = refl
 
@@ -158,7 +171,8 @@ record-is s es xs = refl
 pub record-put : (s : Shape) (es xs out out′ out″ : List ℕ) (at : ℕ) → out′ ≡ sets out 0 (recordHead s es) → at ≡ length (recordHead s es)
     → out″ ≡ sets out′ at (survivors (s .l) es 0 (columns s) xs) → out″ ≡ sets out 0 (recordOf s es xs)
 record-put s es xs out out′ out″ at e p q =
-    q ∙ put-then out out′ (recordHead s es) (survivors (s .l) es 0 (columns s) xs) 0 at e (p ∙ sym (zero-add (length (recordHead s es)))) ∙ ap (sets out 0) (record-is s es xs)
+    q ∙ put-then out out′ (recordHead s es) (survivors (s .l) es 0 (columns s) xs) 0 at e (p ∙ sym (zero-add (length (recordHead s es))))
+    ∙ ap (sets out 0) (record-is s es xs)
 
 -- ---- the refusals of writing, in their order
 
@@ -194,11 +208,14 @@ module _ (s : Shape) (xs es : List ℕ) (room : ℕ) where
 
           pub write-room : room < length (recordOf s es xs) → _≡_ {A = ℕ} 5 (writeRefusal s xs es room)
           unfolding writeRefusal
-          write-room h = stop 5 _ [] (failed _ 5 (lt-leb (length (recordOf s es xs)) room h)) (λ z. omega arith) ∙ skip _ _ four ∙ skip _ _ three ∙ skip _ _ two ∙ skip _ _ one
+          write-room h =
+              stop 5 _ [] (failed _ 5 (lt-leb (length (recordOf s es xs)) room h)) (λ z. omega arith) ∙ skip _ _ four ∙ skip _ _ three ∙ skip _ _ two
+              ∙ skip _ _ one
 
           pub write-lawful : length (recordOf s es xs) ≤ room → _≡_ {A = ℕ} 0 (writeRefusal s xs es room)
           unfolding writeRefusal
-          write-lawful h = end ∙ skip _ [] (passed _ 5 (le-leb (length (recordOf s es xs)) room h)) ∙ skip _ _ four ∙ skip _ _ three ∙ skip _ _ two ∙ skip _ _ one
+          write-lawful h =
+              end ∙ skip _ [] (passed _ 5 (le-leb (length (recordOf s es xs)) room h)) ∙ skip _ _ four ∙ skip _ _ three ∙ skip _ _ two ∙ skip _ _ one
 
 -- what a stripe and a list that can be written say
 pub record Writable (s : Shape) (xs es : List ℕ) (room : ℕ) : Type 0 where
@@ -239,7 +256,8 @@ module _ (s : Shape) (xs es : List ℕ) (room : ℕ) (w : Writable s xs es room)
 
 -- ---- the answers
 
-pub unwritten-is : (s : Shape) (xs es : List ℕ) (room num : ℕ) (v : Written) → v ≡ record { number = num; length = 0 } → num ≡ writeRefusal s xs es room → (num ≡ 0 → ⊥)
+pub unwritten-is : (s : Shape) (xs es : List ℕ) (room num : ℕ) (v : Written) → v ≡ record { number = num; length = 0 } → num ≡ writeRefusal s xs es room
+    → (num ≡ 0 → ⊥)
     → v ≡ writtenOf s xs es room
 unwritten-is s xs es room num v e q z = e ∙ rw (ne-eqb (writeRefusal s xs es room) 0 (λ y. z (q ∙ y)), q)
 
@@ -251,7 +269,8 @@ pub number-says : (s : Shape) (xs es : List ℕ) (room : ℕ) (v : Written) → 
 number-says s xs es room v w = ap (λ (u : Written). u .number) w ∙ go (eqb (writeRefusal s xs es room) 0) refl
   where
     go : (b : Bool) → eqb (writeRefusal s xs es room) 0 ≡ b
-        → (cond {A = Written} b (record { number = 0; length = length (recordOf s es xs) }) (record { number = writeRefusal s xs es room; length = 0 })) .number ≡ writeRefusal s xs es room
+        → (cond {A = Written} b (record { number = 0; length = length (recordOf s es xs) })
+        (record { number = writeRefusal s xs es room; length = 0 })) .number ≡ writeRefusal s xs es room
     go true e = sym (eqb-true (writeRefusal s xs es room) 0 e)
     go false e = refl
 

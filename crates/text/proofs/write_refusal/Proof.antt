@@ -36,8 +36,10 @@ returns-2 c =
     let a = c .before .before .before .before .before .before .before .before .before .before .before .args in
     let h = c .before .before .before .before .before .before .before .before .before .if1 .left in
     let v = c .before .before .before .before .before .before .put-word in
-    text-put (now (a .out)) _ (refusalPrinted (a .number) (length (now (a .out)))) (refusalText (a .number)) _ (printed-refusal (a .number) (length (now (a .out))) h)
-    (put-then (now (a .out)) 0 refusedWord (numberThen (a .number) 10) (refusal-fits (a .number) (length (now (a .out))) h) (v .last .0) (v .result) (v .ensures) _ _
+    text-put (now (a .out)) _ (refusalPrinted (a .number) (length (now (a .out)))) (refusalText (a .number)) _
+    (printed-refusal (a .number) (length (now (a .out))) h)
+    (put-then (now (a .out)) 0 refusedWord (numberThen (a .number) 10) (refusal-fits (a .number) (length (now (a .out))) h) (v .last .0) (v .result)
+    (v .ensures) _ _
     (c .before .before .put-number .ensures))
 
 pub write-refusal-spec : {M : Type 1} → statement M

@@ -34,7 +34,8 @@ put-first-requires c κs =
 add-n : tie.Need-add-n
 add-n c =
     let a = c .before .before .before .before .before .before .before .before .before .before .args in
-    let can = sym (c .before .before .before .before .before .before .can-print .ensures) ∙ not-false _ (c .before .before .before .before .before .if1 .left) in
+    let can =
+    sym (c .before .before .before .before .before .before .can-print .ensures) ∙ not-false _ (c .before .before .before .before .before .if1 .left) in
     let b = allowed (a .s) (printable-says (a .s) _ _ can .shaped) in
     omega (arith, b .data-most, b .parity-most)
 
@@ -42,7 +43,9 @@ put-lines-requires : tie.Need-put-lines-requires
 unfolding stripeText
 put-lines-requires c κs =
     let a = c .before .before .before .before .before .before .before .before .before .before .before .args in
-    let can = sym (c .before .before .before .before .before .before .before .can-print .ensures) ∙ not-false _ (c .before .before .before .before .before .before .if1 .left) in
+    let can =
+    sym (c .before .before .before .before .before .before .before .can-print .ensures)
+    ∙ not-false _ (c .before .before .before .before .before .before .if1 .left) in
     let v = c .before .before .before .before .put-first in (
       omega (arith, printable-says (a .s) _ _ can .whole),
       rest-room (now (a .out)) 0 (firstLine (a .s)) (columnLines (a .s .l) (now (a .lost)) 0 (columns (a .s)) (now (a .stripe)))
@@ -56,7 +59,9 @@ returns-2 : tie.Need-returns-2
 unfolding stripeText
 returns-2 c =
     let a = c .before .before .before .before .before .before .before .before .before .before .before .before .before .before .args in
-    let can = sym (c .before .before .before .before .before .before .before .before .before .before .can-print .ensures) ∙ not-false _ (c .before .before .before .before .before .before .before .before .before .if1 .left) in
+    let can =
+    sym (c .before .before .before .before .before .before .before .before .before .before .can-print .ensures)
+    ∙ not-false _ (c .before .before .before .before .before .before .before .before .before .if1 .left) in
     let v = c .before .before .before .before .before .before .before .put-first in
     let n = length (now (a .out)) in
     text-put (now (a .out)) _ (stripePrinted (a .s) (now (a .lost)) (now (a .stripe)) n) (stripeText (a .s) (now (a .lost)) (now (a .stripe))) _

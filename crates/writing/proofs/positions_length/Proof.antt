@@ -35,7 +35,12 @@ add-total : tie.Need-add-total Inv-loop μ-loop
 add-total c =
     let a = c .before .before .before .before .before .args in
     let v = c .before .before .before .loop in
-    omega (arith, positions-bytes (now (a .lost)) (v .i) (c .before .before .loop-test .taken), positions-most (now (a .lost)), c .before .before .before .before .before .pre)
+    omega (
+      arith,
+      positions-bytes (now (a .lost)) (v .i) (c .before .before .loop-test .taken),
+      positions-most (now (a .lost)),
+      c .before .before .before .before .before .pre,
+    )
 
 add-i : tie.Need-add-i Inv-loop μ-loop
 add-i c = search needs

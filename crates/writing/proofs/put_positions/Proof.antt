@@ -14,7 +14,8 @@ use Rattle.writing.proofs.put_positions.Tie as tie
 abbrev Inv-loop : tie.InvT-loop
 Inv-loop lost out₀ first at₀ i₀ out at i =
     (length out ≡ length out₀)
-    × ((at + length (positionsWritten (drop i lost)) ≡ first + length (positionsWritten lost)) × (sets out at (positionsWritten (drop i lost)) ≡ sets out₀ first (positionsWritten lost)))
+    × ((at + length (positionsWritten (drop i lost)) ≡ first + length (positionsWritten lost))
+    × (sets out at (positionsWritten (drop i lost)) ≡ sets out₀ first (positionsWritten lost)))
 
 abbrev μ-loop : tie.MeasureT-loop
 μ-loop lost out₀ first at₀ i₀ out at i = length lost - i
@@ -54,7 +55,8 @@ loop-again c =
       (
         omega (arith, k .ensures .0),
         ap (λ (n : ℕ). sets (k .last .1 .0) n (positionsWritten (drop (v .i + 1) (now (a .lost))))) (k .ensures .0)
-            ∙ positions-turn (v .out) (k .last .1 .0) (now (a .lost)) (v .at) (v .i) (c .before .before .before .before .before .loop-test .taken) (k .ensures .1) ∙ v .inv .1 .1,
+            ∙ positions-turn (v .out) (k .last .1 .0) (now (a .lost)) (v .at) (v .i) (c .before .before .before .before .before .loop-test .taken)
+            (k .ensures .1) ∙ v .inv .1 .1,
       ),
     )
 

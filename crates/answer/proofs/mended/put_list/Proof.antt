@@ -41,8 +41,11 @@ loop-less c = search needs
 loop-again : tie.Need-loop-again Inv-loop μ-loop
 loop-again c =
     let l = c .before .before in
-    let a = l .before .args in
-    (search needs, list-turn (now (a .out)) (now (a .list)) (l .loop .out) (l .loop .i) (c .before .loop-test .taken) (l .before .pre) (l .loop .inv .1 .0) (l .loop .inv .1 .1))
+    let a = l .before .args in (
+      search needs,
+      list-turn (now (a .out)) (now (a .list)) (l .loop .out) (l .loop .i) (c .before .loop-test .taken) (l .before .pre) (l .loop .inv .1 .0)
+          (l .loop .inv .1 .1),
+    )
 
 same-length : tie.Need-same-length Inv-loop μ-loop
 same-length c = search needs

@@ -66,8 +66,10 @@ loop-again c =
     let x = getD (now (s .args .lost)) (l .loop .i) 0 in
     let xs = set (l .loop .list) (l .loop .next) (x % 256) in (
       search needs,
-      pairs-turn (now (s .args .list)) (now (s .args .lost)) (l .loop .list) xs (set xs (l .loop .next + 1) (x / 256)) (l .loop .next) (l .loop .next + 1) (l .loop .next + 2) (l .loop .i)
-          (c .before .before .loop-test .taken) (l .loop .inv .1 .0) (l .loop .inv .1 .1 .1) refl (over-one (l .loop .list) (l .loop .next) (x % 256) (omega arith)) (omega arith)
+      pairs-turn (now (s .args .list)) (now (s .args .lost)) (l .loop .list) xs (set xs (l .loop .next + 1) (x / 256)) (l .loop .next) (l .loop .next + 1)
+          (l .loop .next + 2) (l .loop .i)
+          (c .before .before .loop-test .taken) (l .loop .inv .1 .0) (l .loop .inv .1 .1 .1) refl
+          (over-one (l .loop .list) (l .loop .next) (x % 256) (omega arith)) (omega arith)
           (over-one xs (l .loop .next + 1) (x / 256) (simp length-set (omega arith))) (s .pre),
     )
 

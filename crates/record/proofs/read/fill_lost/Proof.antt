@@ -48,7 +48,11 @@ cast-lost c =
     let a = c .before .before .before .before .before .before .args in
     let v = c .before .before .before .loop in
     let g = c .before .read-number .ensures in
-    omega (arith, c .value-of .ensures ∙ ap valueOf g, positions-small (now (a .s)) (a .m) (v .i) (v .at) (c .before .before .loop-test .taken) (v .inv .1 .1 .0) .0)
+    omega (
+      arith,
+      c .value-of .ensures ∙ ap valueOf g,
+      positions-small (now (a .s)) (a .m) (v .i) (v .at) (c .before .before .loop-test .taken) (v .inv .1 .1 .0) .0,
+    )
 
 mul-lost : tie.Need-mul-lost Inv-loop μ-loop
 mul-lost c = search needs
@@ -78,7 +82,8 @@ loop-again c =
         (
           λ j. rw y (positions-small (now (a .s)) (a .m) (v .i) (v .at) t (v .inv .1 .1 .0) .1 j),
           ap (λ (n : ℕ). over (set (v .lost) (v .i) (c .before .value-of .result)) (v .i + 1) (positionsAt (now (a .s)) (a .m - (v .i + 1)) n)) y
-              ∙ list-turn (now (a .s)) (v .lost) (a .m) (v .i) (v .at) (c .before .value-of .result) t (omega (arith, c .before .before .before .before .before .before .before .pre .0)) (c .before .value-of .ensures ∙ ap valueOf g)
+              ∙ list-turn (now (a .s)) (v .lost) (a .m) (v .i) (v .at) (c .before .value-of .result) t
+              (omega (arith, c .before .before .before .before .before .before .before .pre .0)) (c .before .value-of .ensures ∙ ap valueOf g)
               ∙ v .inv .1 .1 .1,
         ),
       ),

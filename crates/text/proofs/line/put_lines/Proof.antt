@@ -60,8 +60,12 @@ put-line-requires : tie.Need-put-line-requires Inv-loop μ-loop
 put-line-requires c κs =
     let l = c .before .before .before .before in
     let s = l .before .before .before .before in
-    let e = line-from (s .args .l) (now (s .args .lost)) (l .loop .c) (l .loop .from) (now (s .args .stripe)) (c .before .is-lost .result) (c .before .is-lost .ensures) (l .loop .inv .1 .0) in
-    let f = line-fits (now (s .args .out)) (l .loop .out) (l .loop .out) (s .args .at) (l .loop .next) (l .loop .next) (s .args .l) (s .args .n) (l .loop .c) (now (s .args .lost)) (now (s .args .stripe))
+    let e =
+    line-from (s .args .l) (now (s .args .lost)) (l .loop .c) (l .loop .from) (now (s .args .stripe)) (c .before .is-lost .result)
+    (c .before .is-lost .ensures) (l .loop .inv .1 .0) in
+    let f =
+    line-fits (now (s .args .out)) (l .loop .out) (l .loop .out) (s .args .at) (l .loop .next) (l .loop .next) (s .args .l) (s .args .n) (l .loop .c)
+    (now (s .args .lost)) (now (s .args .stripe))
     (c .before .before .before .loop-test .taken) (s .pre .1) in
     omega (arith, ap length e, f, l .loop .inv .1 .1 .0, l .loop .inv .1 .1 .1 .0)
 
@@ -78,7 +82,9 @@ loop-again c =
     let v = c .before .before .put-line in
     let w = c .before .before .before .before .is-lost in
     let e = line-from (s .args .l) (now (s .args .lost)) (l .loop .c) (l .loop .from) (now (s .args .stripe)) (w .result) (w .ensures) (l .loop .inv .1 .0) in
-    let t = lines-turn (now (s .args .out)) (l .loop .out) (v .last .0) (s .args .at) (l .loop .next) (v .result) (s .args .l) (s .args .n) (l .loop .c) (now (s .args .lost)) (now (s .args .stripe))
+    let t =
+    lines-turn (now (s .args .out)) (l .loop .out) (v .last .0) (s .args .at) (l .loop .next) (v .result) (s .args .l) (s .args .n) (l .loop .c)
+    (now (s .args .lost)) (now (s .args .stripe))
     (c .before .before .before .before .before .before .loop-test .taken) (s .pre .1) (l .loop .inv .1 .1 .0) (l .loop .inv .1 .1 .1 .1)
     (v .ensures .0 ∙ ap (λ (xs : List ℕ). l .loop .next + length xs) e) (v .ensures .1 ∙ ap (over (l .loop .out) (l .loop .next)) e) in
     (search needs, (omega (arith, l .loop .inv .1 .0, suc-mul (l .loop .c) (s .args .l), ap (λ (k : ℕ). k * s .args .l) (add-one (l .loop .c))), t))
@@ -92,7 +98,8 @@ returns c =
     let s = l .before .before .before .before in
     let e : l .loop .c ≡ s .args .n = omega arith in (
       l .loop .inv .1 .1 .0 ∙ ap (λ (k : ℕ). s .args .at + length (columnLines (s .args .l) (now (s .args .lost)) 0 k (now (s .args .stripe)))) e,
-      l .loop .inv .1 .1 .1 .1 ∙ ap (λ (k : ℕ). over (now (s .args .out)) (s .args .at) (columnLines (s .args .l) (now (s .args .lost)) 0 k (now (s .args .stripe)))) e,
+      l .loop .inv .1 .1 .1 .1
+          ∙ ap (λ (k : ℕ). over (now (s .args .out)) (s .args .at) (columnLines (s .args .l) (now (s .args .lost)) 0 k (now (s .args .stripe)))) e,
     )
 
 pub put-lines-spec : {M : Type 1} → statement M

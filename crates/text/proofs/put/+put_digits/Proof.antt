@@ -146,8 +146,10 @@ put-digits-returns-3 : (t : ℕ) → put-digits-lts.Need-returns-3 (
 ) (put-digits-at t) put-digits.Post
 put-digits-returns-3 t c =
     let s = c .before .before .before .before .before .before .before .before .before .before .before in
-    more-put (now (s .args .out)) _ _ (s .args .at) _ _ (s .args .m) (s .args .n) (c .before .before .before .before .before .before .before .before .before .if1 .left) (search needs) (s .pre .1 .1)
-    (c .before .before .before .before .before .before .put-digits .ensures .0) (c .before .before .before .before .before .before .put-digits .ensures .1) (c .before .before .put-byte2 .ensures .0) (c .before .before .put-byte2 .ensures .1)
+    more-put (now (s .args .out)) _ _ (s .args .at) _ _ (s .args .m) (s .args .n)
+    (c .before .before .before .before .before .before .before .before .before .if1 .left) (search needs) (s .pre .1 .1)
+    (c .before .before .before .before .before .before .put-digits .ensures .0) (c .before .before .before .before .before .before .put-digits .ensures .1)
+    (c .before .before .put-byte2 .ensures .0) (c .before .before .put-byte2 .ensures .1)
 
 pub +put-digits-spec : {M : Type 1} → statement M
 +put-digits-spec = close μ-put-digits λ t. put-digits-lts.spec (

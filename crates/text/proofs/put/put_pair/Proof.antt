@@ -33,7 +33,8 @@ returns c =
     let b = s .args .b in
     let first = c .before .before .before .before .before .before .before .put-byte .ensures in
     let second = c .before .before .put-byte2 .ensures in
-    let high = ap (λ (d : ℕ). over (now (s .args .out)) (s .args .at) (d ∷ [])) (c .before .before .before .before .before .before .before .before .hex-digit .ensures) in
+    let high =
+    ap (λ (d : ℕ). over (now (s .args .out)) (s .args .at) (d ∷ [])) (c .before .before .before .before .before .before .before .before .hex-digit .ensures) in
     let mid = c .before .before .before .before .before .before .before .put-byte in
     let low = ap (λ (d : ℕ). over (mid .last .0) (mid .result) (d ∷ [])) (c .before .before .before .hex-digit2 .ensures) in (
       omega arith,

@@ -1,7 +1,8 @@
 /* Stripes for the shelf daemon: k data columns and r parity columns of l bytes each, over the field of 256 elements.
  *
  * The library is libshelf.a. Each function here is proved, for every input, to return and write what this page says. It keeps no
- * state, takes no memory but less than 16 KiB of stack, and calls nothing but memcpy and memset, so any thread may call it.
+ * state, takes no memory but stack (each function says how much; 16 KiB are enough for any), and calls nothing but memcpy and memset, so any
+ * thread may call it.
  *
  * Numbers come as they come: none of them has to be checked before a call. A function that can refuse returns 0 (SHELF_OK), or the
  * number of a refusal, and a refusal writes nothing but what is said of it. Where several refusals apply, the lowest number is
@@ -125,6 +126,8 @@ static inline const char *shelf_refusal(uint32_t number)
  * runs j, and if j >= r row j of their runs i is added to it.
  *
  * Returns 0: all r * l parity bytes are written. Returns 1, 2 or 5, in this order: nothing is written.
+ *
+ * Stack: less than 1,024 bytes.
  */
 uint32_t shelf_encode(uint64_t k, uint64_t r, uint64_t t, uint64_t l,
                       const uint8_t *data, size_t data_len, uint8_t *parity, size_t parity_len);
@@ -142,6 +145,8 @@ uint32_t shelf_encode(uint64_t k, uint64_t r, uint64_t t, uint64_t l,
  *
  * With nothing lost, 0 says that the stripe is a codeword and 8 that it is none. With exactly r lost 8 never comes: any k columns
  * agree with some codeword, so a stale one among them can't show.
+ *
+ * Stack: less than 16,384 bytes.
  */
 uint32_t shelf_mend(uint64_t k, uint64_t r, uint64_t t, uint64_t l,
                     uint8_t *stripe, size_t stripe_len, const uint8_t *lost, size_t lost_len);
@@ -156,6 +161,8 @@ uint32_t shelf_mend(uint64_t k, uint64_t r, uint64_t t, uint64_t l,
  * Returns 0: the stripe is a codeword. Returns 8: it is none; *column is the first parity column, from 0, that does not hold what
  * shelf_encode writes for these data, and *place the first byte of it that differs. Returns 1, 2 or 5, in this order. *column and *place
  * are written with 8 alone, and nothing else ever is.
+ *
+ * Stack: less than 16,384 bytes.
  */
 uint32_t shelf_check(uint64_t k, uint64_t r, uint64_t t, uint64_t l, const uint8_t *data, size_t data_len,
                      const uint8_t *parity, size_t parity_len, uint32_t *column, uint32_t *place);
@@ -175,6 +182,8 @@ struct shelf_span { uint32_t stripe, position, first, length; };
  *   stripes, f   the numbers of the fold
  *
  * Returns 0, or 1, 2, 3 or 4, in this order. Nothing is written.
+ *
+ * Stack: less than 512 bytes.
  */
 uint32_t shelf_plan_refusal(uint64_t k, uint64_t r, uint64_t t, uint64_t l, uint64_t stripes, uint64_t f);
 
@@ -184,6 +193,8 @@ uint32_t shelf_plan_refusal(uint64_t k, uint64_t r, uint64_t t, uint64_t l, uint
  *   stripes, f   the numbers of the fold
  *
  * Returns the number of columns, which is 0 only where shelf_plan_refusal is not 0. Nothing is written.
+ *
+ * Stack: less than 512 bytes.
  */
 uint64_t shelf_plan_columns_read(uint64_t k, uint64_t r, uint64_t t, uint64_t l, uint64_t stripes, uint64_t f);
 
@@ -193,6 +204,8 @@ uint64_t shelf_plan_columns_read(uint64_t k, uint64_t r, uint64_t t, uint64_t l,
  *   stripes, f   the numbers of the fold
  *
  * Returns the number of bytes, which is 0 only where shelf_plan_refusal is not 0. Nothing is written.
+ *
+ * Stack: less than 512 bytes.
  */
 uint64_t shelf_plan_bytes_read(uint64_t k, uint64_t r, uint64_t t, uint64_t l, uint64_t stripes, uint64_t f);
 
@@ -205,6 +218,8 @@ uint64_t shelf_plan_bytes_read(uint64_t k, uint64_t r, uint64_t t, uint64_t l, u
  *
  * Returns 0: the spans stand in order at the front of the list, and the records after the last span stay as they are. Returns 1, 2,
  * 3, 4, or 5 where spans_len is less than the plan's number of spans, in this order: nothing is written.
+ *
+ * Stack: less than 512 bytes.
  */
 uint32_t shelf_plan_spans(uint64_t k, uint64_t r, uint64_t t, uint64_t l, uint64_t stripes, uint64_t f,
                           struct shelf_span *spans, size_t spans_len);
@@ -227,6 +242,8 @@ uint32_t shelf_plan_spans(uint64_t k, uint64_t r, uint64_t t, uint64_t l, uint64
  * column j; and if b < r and j >= r, run j of its parity column b plus row b of run j of its data.
  *
  * Returns 0: all f * l parity bytes are written. Returns 1, 2, 3, 4 or 5, in this order: nothing is written.
+ *
+ * Stack: less than 12,288 bytes.
  */
 uint32_t shelf_fold(uint64_t k, uint64_t r, uint64_t t, uint64_t l, uint64_t stripes, uint64_t f,
                     const uint8_t *read, size_t read_len, uint8_t *parity, size_t parity_len);
@@ -248,6 +265,8 @@ uint32_t shelf_fold(uint64_t k, uint64_t r, uint64_t t, uint64_t l, uint64_t str
  * length, the buffer and the two lists; then 9 for each number as it comes; after the fourth 1, 2, or 5 for more than 65,536 bytes of
  * stripe; then 9 or 6 for the lost count and each position; then 9 where the columns are cut, 10 where bytes are left over. With any
  * of these nothing is written.
+ *
+ * Stack: less than 1,024 bytes.
  */
 uint32_t shelf_read_record(const uint8_t *record, size_t record_len, uint8_t *stripe, size_t stripe_len,
                            uint16_t *lost, size_t lost_len, uint64_t *numbers, size_t numbers_len);
@@ -263,6 +282,8 @@ uint32_t shelf_read_record(const uint8_t *record, size_t record_len, uint8_t *st
  * Returns 0: the record stands at the front of the output, whose rest stays, and *length is its length. Returns 1, 2, 5 for a stripe
  * above 65,536 bytes or another stripe_len, 6, or 5 for a record above 65,536 bytes or an output that is too short, in this order:
  * nothing is written.
+ *
+ * Stack: less than 512 bytes.
  */
 uint32_t shelf_write_record(uint64_t k, uint64_t r, uint64_t t, uint64_t l, const uint8_t *stripe, size_t stripe_len,
                             const uint16_t *lost, size_t lost_len, uint8_t *out, size_t out_len, uint64_t *length);

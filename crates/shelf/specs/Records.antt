@@ -6,7 +6,7 @@ use lib.Dec.{eqb}
 use lib.ListN.{length}
 use Rattle.stripe.specs.declared.Shape.{Shape}
 use Rattle.record.specs.Layout.{recordOf}
-use Rattle.record.specs.Reading.{shapeOf, countOf, readRefusal, columnsFilled, positionsFilled}
+use Rattle.record.specs.Reading.{shapeRead, countOf, readRefusal, columnsFilled, positionsFilled}
 use Rattle.writing.specs.Writing.{writeRefusal}
 
 -- ---- reading the record bs into the stripe xs, the list of lost positions es and the list of numbers ns
@@ -26,7 +26,7 @@ abbrev pub numbersOf : Shape → ℕ → List ℕ
 numbersOf s n = s .k ∷ s .r ∷ s .t ∷ s .l ∷ n ∷ []
 
 abbrev pub numbersLeft : List ℕ → List ℕ → List ℕ → List ℕ → List ℕ
-numbersLeft bs xs es ns = cond (eqb (readNumber bs xs es ns) 0) (numbersOf (shapeOf bs) (countOf bs)) ns
+numbersLeft bs xs es ns = cond (eqb (readNumber bs xs es ns) 0) (numbersOf (shapeRead bs) (countOf bs)) ns
 
 -- ---- writing the record of the stripe xs, of which the columns es are lost, to the front of ys
 

@@ -1,5 +1,6 @@
 /* Times the exported functions against two peers, ISA-L and jerasure, on the same buffers: batches of ours, of theirs and of memcpy (the
- * roof) take turns, and the medians count. Speeds are GB/s of the bytes that a call covers.
+ * roof) take turns, and the medians count. Speeds are GB/s of the bytes that a call covers. Where bench/run gives it the same functions
+ * compiled for the machine at hand, under names with native_ before them, these take turns too.
  *
  * Whatever ours does, a peer does as weighted sums of columns, stated here operation by operation. Its weights, inverses and tables are
  * made outside the timed part; ours solves inside. Where ours judges a surviving column, a peer makes that column too and compares it.
@@ -17,12 +18,28 @@
 
 enum { MOST = 258 * 4096, SOURCES = 300, JOBS = 9 };
 enum { ROUNDS = 31, BATCH = 2 << 20 };                         /* a batch covers BATCH bytes, or one call's */
-enum { OURS, ISAL, JERASURE, ROOF, SIDES };
+enum { OURS, ISAL, JERASURE, ROOF, NATIVE_OURS, SIDES };
 
 #ifdef __aarch64__
 #define MACHINE "aarch64"
 #else
 #define MACHINE "x86-64"
+#endif
+
+/* Ours, and the same compiled for the machine at hand. */
+static const struct calls {
+    uint32_t (*encode)(uint64_t k, uint64_t r, uint64_t t, uint64_t l, const uint8_t *data, size_t data_len, uint8_t *parity, size_t parity_len);
+    uint32_t (*mend)(uint64_t k, uint64_t r, uint64_t t, uint64_t l, uint8_t *stripe, size_t stripe_len, const uint8_t *lost, size_t lost_len);
+    uint32_t (*fold)(uint64_t k, uint64_t r, uint64_t t, uint64_t l, uint64_t stripes, uint64_t f, const uint8_t *read, size_t read_len, uint8_t *parity,
+                     size_t parity_len);
+} shipped = {shelf_encode, shelf_mend, shelf_fold}, *calls = &shipped;
+#ifdef NATIVE
+uint32_t native_shelf_encode(uint64_t, uint64_t, uint64_t, uint64_t, const uint8_t *, size_t, uint8_t *, size_t);
+uint32_t native_shelf_mend(uint64_t, uint64_t, uint64_t, uint64_t, uint8_t *, size_t, const uint8_t *, size_t);
+uint32_t native_shelf_fold(uint64_t, uint64_t, uint64_t, uint64_t, uint64_t, uint64_t, const uint8_t *, size_t, uint8_t *, size_t);
+static const struct calls native_calls = {native_shelf_encode, native_shelf_mend, native_shelf_fold}, *const native = &native_calls;
+#else
+static const struct calls *const native = NULL;
 #endif
 
 /* The thresholds, as ratios to ISA-L. Fold C has one more, and so has mending at L = 64. */
@@ -135,6 +152,15 @@ static void roof(void)
     __asm__ volatile("" ::: "memory");
 }
 
+/* Our turn, compiled for the machine at hand. */
+static void (*our_own)(void);
+static void native_turn(void)
+{
+    calls = native;
+    our_own();
+    calls = &shipped;
+}
+
 /* GB/s of each side. */
 static void speeds(void (*const *turns)(void), double *gb)
 {
@@ -168,8 +194,9 @@ struct result { double speed, ratio; };
 static struct result contest(const char *what, void (*our_turn)(void), double least)
 {
     /* jerasure wants all columns and runs aligned alike */
-    void (*const turns[SIDES])(void) = {our_turn, isal_turn, run % 16 == 0 ? jerasure_turn : NULL, roof};
+    void (*const turns[SIDES])(void) = {our_turn, isal_turn, run % 16 == 0 ? jerasure_turn : NULL, roof, native ? native_turn : NULL};
     double gb[SIDES];
+    our_own = our_turn;
     make_jobs();
     printf("%-18s %3d %d %d %4d ", what, K, R, T, L);
     our_turn();
@@ -189,6 +216,8 @@ static struct result contest(const char *what, void (*our_turn)(void), double le
         printf("%8.2f %6.2f %7.2f", gb[JERASURE], gb[OURS] / gb[JERASURE], gb[ROOF]);
     else
         printf("%8s %6s %7.2f", "-", "-", gb[ROOF]);
+    if (turns[NATIVE_OURS])
+        printf(" %7.2f", gb[NATIVE_OURS] / gb[ISAL]);
     for (size_t i = 0; i < sizeof thresholds / sizeof *thresholds; i++)
         if (strcmp(what, thresholds[i].what) == 0 && K == thresholds[i].k && R == thresholds[i].r && T == thresholds[i].t)
             for (int j = 0; j < 4; j++)
@@ -212,12 +241,12 @@ static int lost_count;
 
 static void our_encode(void)
 {
-    failed |= shelf_encode((uint64_t)K, (uint64_t)R, (uint64_t)T, (uint64_t)L, whole, (size_t)(K * L), whole + K * L, (size_t)(R * L)) != 0;
+    failed |= calls->encode((uint64_t)K, (uint64_t)R, (uint64_t)T, (uint64_t)L, whole, (size_t)(K * L), whole + K * L, (size_t)(R * L)) != 0;
 }
 
 static void our_mend(void)
 {
-    failed |= shelf_mend((uint64_t)K, (uint64_t)R, (uint64_t)T, (uint64_t)L, whole, (size_t)((K + R) * L), lost_bytes, (size_t)(2 * lost_count)) != 0;
+    failed |= calls->mend((uint64_t)K, (uint64_t)R, (uint64_t)T, (uint64_t)L, whole, (size_t)((K + R) * L), lost_bytes, (size_t)(2 * lost_count)) != 0;
 }
 
 /* The weight of data column c, run d, in the column at position p, run b. */
@@ -296,7 +325,7 @@ static int N, F;
 
 static void our_fold(void)
 {
-    failed |= shelf_fold((uint64_t)K, (uint64_t)R, (uint64_t)T, (uint64_t)L, (uint64_t)N, (uint64_t)F, whole, covered, whole + covered, (size_t)(F * L)) != 0;
+    failed |= calls->fold((uint64_t)K, (uint64_t)R, (uint64_t)T, (uint64_t)L, (uint64_t)N, (uint64_t)F, whole, covered, whole + covered, (size_t)(F * L)) != 0;
 }
 
 /* How many stripes are folded. */
@@ -384,7 +413,8 @@ int main(void)
 {
     for (int i = 0; i < MOST; i++)
         whole[i] = (uint8_t)(rand() >> 7);
-    printf("GB/s, %-12s %3s %s %s %4s %7s %7s %6s %8s %6s %7s\n", MACHINE, "k", "r", "t", "L", "ours", "ISA-L", "ratio", "jerasure", "ratio", "memcpy");
+    printf("GB/s, %-12s %3s %s %s %4s %7s %7s %6s %8s %6s %7s%s\n", MACHINE, "k", "r", "t", "L", "ours", "ISA-L", "ratio", "jerasure", "ratio", "memcpy",
+           native ? "  native: ratio to ISA-L" : "");
     each(1, 0, encode);
     each(2, 0, encode);
     each(3, 0, encode);

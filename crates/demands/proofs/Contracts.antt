@@ -140,11 +140,11 @@ pub plan-refusal-promises : (κs : Lfts 0) (a : ArgsD plan-refusal.signature κs
 plan-refusal-promises κs a v s = refl
 
 pub plan-columns-promises : (κs : Lfts 0) (a : ArgsD plan-columns.signature κs) (v : ResD plan-columns.signature κs) (s : AtExit plan-columns.ended κs)
-    → plan-columns-reads.Post κs a v s ≡ PlanColumns (a .0) (a .1 .0) (a .1 .1 .0) (a .1 .1 .1 .0) (a .1 .1 .1 .1 .0) (a .1 .1 .1 .1 .1 .0) v
+    → plan-columns-reads.Post κs a v s ≡ PlanColumns (a .0) (a .1 .0) (a .1 .1 .0) (a .1 .1 .1 .0) (a .1 .1 .1 .1 .0) (a .1 .1 .1 .1 .1 .0) (v .0)
 plan-columns-promises κs a v s = refl
 
 pub plan-bytes-promises : (κs : Lfts 0) (a : ArgsD plan-bytes.signature κs) (v : ResD plan-bytes.signature κs) (s : AtExit plan-bytes.ended κs)
-    → plan-bytes-reads.Post κs a v s ≡ PlanBytes (a .0) (a .1 .0) (a .1 .1 .0) (a .1 .1 .1 .0) (a .1 .1 .1 .1 .0) (a .1 .1 .1 .1 .1 .0) v
+    → plan-bytes-reads.Post κs a v s ≡ PlanBytes (a .0) (a .1 .0) (a .1 .1 .0) (a .1 .1 .1 .0) (a .1 .1 .1 .1 .0) (a .1 .1 .1 .1 .1 .0) (v .0)
 plan-bytes-promises κs a v s = refl
 
 pub column-promises : (κs : Lfts 1) (a : ArgsD column.signature κs) (v : ResD column.signature κs) (s : AtExit column.ended κs)

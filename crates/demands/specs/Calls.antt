@@ -44,7 +44,7 @@ abbrev pub Folds : ℕ → ℕ → ℕ → ℕ → ℕ → ℕ → List ℕ → 
 Folds k r t l n f xs ps v ps′ =
     (v ≡ foldVerdict (shapeOf k r t l) n f (length xs) (length ps)) × (ps′ ≡ foldFilled (shapeOf k r t l) n f xs ps)
 
--- `shelf_plan_refusal`, `shelf_plan_columns_read` and `shelf_plan_bytes_read` answer v
+-- `shelf_plan_refusal`, `shelf_plan_columns_read` and `shelf_plan_bytes_read` answer v; of the two counts v is the number
 abbrev pub PlanRefuses : ℕ → ℕ → ℕ → ℕ → ℕ → ℕ → ℕ → Type 0
 PlanRefuses k r t l n f v = v ≡ foldRefusal (shapeOf k r t l) n f
 

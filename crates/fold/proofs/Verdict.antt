@@ -24,14 +24,14 @@ module _ (s : Shape) (n f a b : ℕ) where
       ap (λ (t : Bool). cond t (cond (eqb a (bytesRead s n f) && eqb b (f * s .l)) 0 5) (foldRefusal s n f)) (eq-eqb (foldRefusal s n f) 0 e)
       ∙ ap₂ (λ (t u : Bool). cond (t && u) 0 5) hx hy
 
-  pub by-read : foldRefusal s n f ≡ 0 → (a ≡ bytesRead s n f → ⊥) → 5 ≡ foldVerdict s n f a b
-  by-read e h = sym (by-lengths e false (eqb b (f * s .l)) (ne-eqb a (bytesRead s n f) h) refl)
+  pub by-read : foldRefusal s n f ≡ 0 → eqb a (bytesRead s n f) ≡ false → 5 ≡ foldVerdict s n f a b
+  by-read e h = sym (by-lengths e false (eqb b (f * s .l)) h refl)
 
-  pub by-filled : foldRefusal s n f ≡ 0 → a ≡ bytesRead s n f → (b ≡ f * s .l → ⊥) → 5 ≡ foldVerdict s n f a b
-  by-filled e g h = sym (by-lengths e true false (eq-eqb a (bytesRead s n f) g) (ne-eqb b (f * s .l) h))
+  pub by-filled : foldRefusal s n f ≡ 0 → eqb a (bytesRead s n f) ≡ true → (b ≡ f * s .l → ⊥) → 5 ≡ foldVerdict s n f a b
+  by-filled e g h = sym (by-lengths e true false g (ne-eqb b (f * s .l) h))
 
-  pub by-nothing : foldRefusal s n f ≡ 0 → a ≡ bytesRead s n f → b ≡ f * s .l → 0 ≡ foldVerdict s n f a b
-  by-nothing e g h = sym (by-lengths e true true (eq-eqb a (bytesRead s n f) g) (eq-eqb b (f * s .l) h))
+  pub by-nothing : foldRefusal s n f ≡ 0 → eqb a (bytesRead s n f) ≡ true → b ≡ f * s .l → 0 ≡ foldVerdict s n f a b
+  by-nothing e g h = sym (by-lengths e true true g (eq-eqb b (f * s .l) h))
 
   both-passed : (x : ℕ) (t : Bool) → cond (eqb x 0) (cond t 0 5) x ≡ 0 → (x ≡ 0) × (t ≡ true)
   both-passed zero true e = (refl, refl)

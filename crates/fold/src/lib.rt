@@ -5,8 +5,8 @@ ghost use lib.ListN.{length};
 ghost use Rattle.plan.specs.Plan.{foldRefusal, bytesRead};
 ghost use Rattle.fold.specs.Fold.{foldOf, foldVerdict, foldFilled};
 use coding::encode::encode;
-use counts::bytes_read;
 use plan::Kind;
+use plan::counts::bytes_read;
 use plan::fold_refusal;
 use plan::kind_of;
 use plan::wide_shape;
@@ -24,7 +24,7 @@ fn fold_verdict(s: Shape, stripes: usize, f: usize, a: usize, b: usize) -> u32
     if no != 0 {
         return no;
     }
-    if a as u64 != bytes_read(s, stripes, f).number() {
+    if !bytes_read(s, stripes, f).is(a) {
         return 5;
     }
     if b != f * s.l {

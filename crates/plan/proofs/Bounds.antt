@@ -61,20 +61,17 @@ module _ (s : Shape) (passed : shapeRefusal s ≡ 0) where
   pub data-product : s .k * s .l ≤ mostData * mostLength
   data-product = mul-le-mul data-small length-small
 
-  pub parity-runs : s .r * s .t ≤ 9
-  parity-runs = mul-le-mul parity-small mark-small
-
-  pub data-runs : s .k * (s .t - s .r) ≤ mostData * mostRows
-  data-runs = mul-le-mul data-small rest-small
-
-  pub all-runs : (s .r * s .t + s .k * (s .t - s .r)) * (s .l / s .t) ≤ 3170304
-  all-runs = mul-le-mul {n₂ = 774} (omega (arith, parity-runs, data-runs)) run-small
-
   pub first-small : s .r * (s .l / s .t) ≤ mostParityLength
   first-small = mul-le-mul parity-small run-small
 
   pub part-small : (s .t - s .r) * (s .l / s .t) ≤ mostRows * mostLength
   part-small = mul-le-mul rest-small run-small
+
+  pub parts-product : s .k * ((s .t - s .r) * (s .l / s .t)) ≤ mostData * (mostRows * mostLength)
+  parts-product = mul-le-mul data-small part-small
+
+  pub parity-product : s .r * s .l ≤ mostParityLength
+  parity-product = new-product (s .r) parity-small
 
 module _ (s : Shape) (n f : ℕ) (passed : foldRefusal s n f ≡ 0) where
   pub each-small : columnsEach (kindOf s f) s f ≤ mostColumns

@@ -3,7 +3,7 @@ use mathlib.Core.Path.{_≡_, refl, sym, ap, ap₂, _∙_, subst}
 use mathlib.Core.Bool.{Bool, true, false, cond, _||_}
 use mathlib.Core.Logic.{_⊎_, inl, inr}
 use Prim.Native.Nat.{ℕ, _+_, _-_, _*_, _/_, _<_, _≤_, min, zero-le}
-use native.Mathlib.Nat.{mul-add, mul-assoc, mul-comm, mul-le-mul-left, mul-le-mul-right}
+use native.Mathlib.Nat.{mul-add, add-mul, mul-assoc, mul-comm, mul-le-mul-left, mul-le-mul-right}
 use native.Mathlib.Omega.{arith}
 use lib.Dec.{eqb, leb}
 use borrow.Author.Tests.{eqb-true, eq-eqb, le-ltb, lt-ltb, lt-leb, le-leb}
@@ -29,6 +29,12 @@ module _ (s : Shape) (n f : ℕ) (passed : foldRefusal s n f ≡ 0) where
 pub refused-bytes : (s : Shape) (n f : ℕ) → eqb (foldRefusal s n f) 0 ≡ false → bytesRead s n f ≡ 0
 unfolding bytesRead
 refused-bytes s n f e = ap (λ (b : Bool). cond b (n * bytesEach (kindOf s f) s f) 0) e
+
+-- kind B's bytes are those of two parts: of each data column the runs from r on, and the parity columns whole
+pub parts-sum : (k r t q l : ℕ) → t * q ≡ l → k * ((t - r) * q) + r * l ≡ (r * t + k * (t - r)) * q
+parts-sum k r t q l e =
+    ap₂ _+_ (sym (mul-assoc k (t - r) q)) (sym (mul-assoc r t q ∙ ap (λ (x : ℕ). r * x) e))
+    ∙ sym (add-mul (k * (t - r)) (r * t) q) ∙ ap (λ (x : ℕ). x * q) (omega arith)
 
 -- ---- never more than all the data
 

@@ -4,4 +4,5 @@ pub mod Costs
 pub mod Bounds
 pub mod Spans
 pub mod Refusals
+pub mod Capped
 pub mod Unique

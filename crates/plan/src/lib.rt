@@ -1,12 +1,16 @@
 // The plan of a fold: N stripes of one shape become one wide stripe with f parity columns. The plan says which bytes a fold reads;
-// crate `counts` says how many. Every function is total: what is refused reads nothing.
+// module `counts` says how many. Every function is total: what is refused reads nothing.
 ghost use mathlib.Core.Path.{_≡_};
 ghost use Prim.Native.Nat.{_*_, _<_, _≤_};
 ghost use Rattle.stripe.specs.Shape.{shapeRefusal, mostData, mostColumns};
 ghost use Rattle.plan.specs.Plan.{foldRefusal, stripesAllowed, newAllowed, kindOf, columnsEach, columnsRead, columnSpan, spanAt, wideAnswer};
 use stripe::MOST_DATA;
 use stripe::MOST_ROWS;
+use crate::counts::columns_each;
+use crate::counts::columns_read;
 use stripe::Shape;
+
+pub mod counts;
 
 // The kinds of folds. A reads parity columns, B runs of the data and the parity, C the data.
 pub enum Kind {
@@ -87,29 +91,6 @@ pub fn kind_of(s: Shape, f: usize) -> Kind
     Kind::A
 }
 
-// How many columns are read of each stripe.
-fn columns_each(s: Shape, f: usize) -> usize
-    requires { ⌜ shapeRefusal s ≡ 0 ⌝ }
-    ensures { λ v. ⌜ v ≡ columnsEach (kindOf s f) s f ⌝ }
-{
-    let kind = kind_of(s, f);
-    match kind {
-        Kind::A => f,
-        Kind::B => s.k + s.r,
-        Kind::C => s.k,
-    }
-}
-
-// How many spans the plan has, one for each column read; none where the fold is refused.
-pub fn span_count(s: Shape, stripes: usize, f: usize) -> usize
-    ensures { λ v. ⌜ v ≡ columnsRead s stripes f ⌝ }
-{
-    if fold_refusal(s, stripes, f) != 0 {
-        return 0;
-    }
-    stripes * columns_each(s, f)
-}
-
 // The span of the column that is number i of those read of stripe n.
 fn column_span(s: Shape, f: usize, n: usize, i: usize) -> Span
     requires { ⌜ (shapeRefusal s ≡ 0) × ((n ≤ 255) × (i ≤ mostColumns)) ⌝ }
@@ -150,10 +131,10 @@ fn span_of(stripe: usize, position: usize, first: usize, length: usize) -> Span
 pub fn span_at(s: Shape, stripes: usize, f: usize, i: usize) -> Span
     ensures { λ v. ⌜ v ≡ spanAt s stripes f i ⌝ }
 {
-    if span_count(s, stripes, f) <= i {
+    if columns_read(s, stripes, f).number() <= i {
         return span_of(0, 0, 0, 0);
     }
-    let each = columns_each(s, f);
+    let each = columns_each(s, f).number();
     column_span(s, f, i / each, i % each)
 }
 

@@ -17,6 +17,7 @@ use denote.Ref.{now}
 use Rattle.mending.proofs.Outcome.{mended-one}
 use Rattle.stripe.specs.declared.Shape.{Shape}
 use Rattle.plan.specs.declared.Span.{Span}
+use Rattle.plan.proofs.Unique.{same-columns, same-bytes}
 use Rattle.shelf.specs.Shelf.{shapeOf, spansRefusal, spansFilled}
 use Rattle.shelf.proofs.shelf_encode as shelf-encode
 use Rattle.shelf.proofs.shelf_encode.Reads as shelf-encode-reads
@@ -54,11 +55,11 @@ shelf-plan-refusal-unique κs a r r′ s s′ p q = p ∙ sym q
 
 pub shelf-plan-columns-read-unique : (κs : Lfts 0) (a : ArgsD shelf-plan-columns-read.signature κs) (r r′ : ResD shelf-plan-columns-read.signature κs)
     (s s′ : AtExit shelf-plan-columns-read.ended κs) → shelf-plan-columns-read-reads.Post κs a r s → shelf-plan-columns-read-reads.Post κs a r′ s′ → r ≡ r′
-shelf-plan-columns-read-unique κs a r r′ s s′ p q = p ∙ sym q
+shelf-plan-columns-read-unique κs a r r′ s s′ p q = same-columns r r′ (p ∙ sym q)
 
 pub shelf-plan-bytes-read-unique : (κs : Lfts 0) (a : ArgsD shelf-plan-bytes-read.signature κs) (r r′ : ResD shelf-plan-bytes-read.signature κs)
     (s s′ : AtExit shelf-plan-bytes-read.ended κs) → shelf-plan-bytes-read-reads.Post κs a r s → shelf-plan-bytes-read-reads.Post κs a r′ s′ → r ≡ r′
-shelf-plan-bytes-read-unique κs a r r′ s s′ p q = p ∙ sym q
+shelf-plan-bytes-read-unique κs a r r′ s s′ p q = same-bytes r r′ (p ∙ sym q)
 
 pub shelf-mend-unique : (κs : Lfts 2) (a : ArgsD shelf-mend.signature κs) (r r′ : ResD shelf-mend.signature κs)
     (s s′ : AtExit shelf-mend.ended κs) → shelf-mend-reads.Post κs a r s → shelf-mend-reads.Post κs a r′ s′

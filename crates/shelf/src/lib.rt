@@ -4,14 +4,15 @@ mod check;
 mod records;
 
 use coding::encode::encode;
-use counts::bytes_read;
-use counts::columns_read;
 use fold::fold;
 use mending::mend;
 use plan::Span;
+use plan::counts::Bytes;
+use plan::counts::Columns;
+use plan::counts::bytes_read;
+use plan::counts::columns_read;
 use plan::fold_refusal;
 use plan::span_at;
-use plan::span_count;
 use stripe::Shape;
 ghost use mathlib.Core.Path.{_≡_};
 ghost use lib.ListN.{length};
@@ -91,20 +92,27 @@ pub extern "C" fn shelf_plan_columns_read(
     l: u64,
     stripes: u64,
     f: u64,
-) -> u64
-    ensures { λ v. ⌜ v ≡ columnsRead (shapeOf k r t l) stripes f ⌝ }
+) -> Columns
+    ensures { λ v. ⌜ v .0 ≡ columnsRead (shapeOf k r t l) stripes f ⌝ }
 {
     let s = shape_of(k, r, t, l);
-    columns_read(s, stripes as usize, f as usize).number()
+    columns_read(s, stripes as usize, f as usize)
 }
 
 // How many bytes the plan reads; 0 where the fold is refused.
 #[no_mangle]
-pub extern "C" fn shelf_plan_bytes_read(k: u64, r: u64, t: u64, l: u64, stripes: u64, f: u64) -> u64
-    ensures { λ v. ⌜ v ≡ bytesRead (shapeOf k r t l) stripes f ⌝ }
+pub extern "C" fn shelf_plan_bytes_read(
+    k: u64,
+    r: u64,
+    t: u64,
+    l: u64,
+    stripes: u64,
+    f: u64,
+) -> Bytes
+    ensures { λ v. ⌜ v .0 ≡ bytesRead (shapeOf k r t l) stripes f ⌝ }
 {
     let s = shape_of(k, r, t, l);
-    bytes_read(s, stripes as usize, f as usize).number()
+    bytes_read(s, stripes as usize, f as usize)
 }
 
 // What is answered to a call for the spans of a plan: the refusal, and how many spans are written.
@@ -122,7 +130,7 @@ fn spans_answer(k: u64, r: u64, t: u64, l: u64, stripes: u64, f: u64, room: usiz
     if no != 0 {
         return SpansAnswer { no: no, spans: 0 };
     }
-    let spans = span_count(s, stripes as usize, f as usize);
+    let spans = columns_read(s, stripes as usize, f as usize).number();
     if room < spans {
         return SpansAnswer { no: 5, spans: 0 };
     }

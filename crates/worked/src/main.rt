@@ -4,11 +4,11 @@
 use checking::Wrong;
 use checking::first_wrong;
 use coding::encode::encode;
-use counts::bytes_read;
-use counts::columns_read;
 use field::Gf;
 use fold::fold;
 use number::write_number;
+use plan::counts::bytes_read;
+use plan::counts::columns_read;
 use plan::fold_refusal;
 use record::read::read_record;
 use stripe::Shape;
@@ -105,18 +105,23 @@ fn check(s: Shape, data: &[u8], parity: &[u8]) {
     }
 }
 
-fn plan(s: Shape, stripes: usize, f: usize) {
+fn plan(s: Shape, stripes: usize, f: usize, bytes: usize) {
     shape(s);
     named(b" N=", stripes);
     named(b" f=", f);
     named(b": ", fold_refusal(s, stripes, f) as usize);
-    named(b", ", bytes_read(s, stripes, f).number() as usize);
-    named(b" bytes, ", columns_read(s, stripes, f).number() as usize);
+    if bytes_read(s, stripes, f).is(bytes) {
+        text(b", ");
+    } else {
+        text(b", not ");
+    }
+    number(bytes);
+    named(b" bytes, ", columns_read(s, stripes, f).number());
     text(b" columns\n");
 }
 
 fn folded(s: Shape, f: usize, read: &[u8], parity: &mut [u8]) {
-    plan(s, 2, f);
+    plan(s, 2, f, read.len());
     listed(b"  read", read);
     let no = fold(s, 2, f, read, parity);
     named(b" answers ", no as usize);
@@ -225,11 +230,11 @@ fn three_runs() {
 }
 
 fn plans() {
-    plan(Shape::new(4, 1, 2, 2), 2, 2);
-    plan(Shape::new(4, 2, 0, 512), 3, 2);
-    plan(Shape::new(127, 1, 0, 1), 2, 1);
-    plan(Shape::new(128, 1, 0, 1), 2, 1);
-    plan(Shape::new(4, 2, 0, 512), 1, 2);
+    plan(Shape::new(4, 1, 2, 2), 2, 2, 12);
+    plan(Shape::new(4, 2, 0, 512), 3, 2, 3072);
+    plan(Shape::new(127, 1, 0, 1), 2, 1, 2);
+    plan(Shape::new(128, 1, 0, 1), 2, 1, 0);
+    plan(Shape::new(4, 2, 0, 512), 1, 2, 0);
 }
 
 fn folds() {

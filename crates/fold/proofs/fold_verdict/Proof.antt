@@ -1,6 +1,9 @@
 -- `fold_verdict` meets its contract: each test decides one part of the definition.
-use mathlib.Core.Path.{sym, _∙_}
+use mathlib.Core.Path.{sym, ap, _∙_}
+use Prim.Native.Nat.{ℕ}
 use native.Mathlib.Omega.{arith}
+use lib.Dec.{eqb}
+use borrow.Author.Tests.{not-true, not-false}
 use Rattle.plan.proofs.Bounds.{fits, new-product}
 use Rattle.plan.proofs.Foldable.{foldable}
 use Rattle.plan.proofs.Refusals.{shape-passed}
@@ -18,11 +21,15 @@ returns c = let r = c .before .fold-refusal .ensures in r ∙ by-refusal _ _ _ _
 bytes-read-requires : tie.Need-bytes-read-requires
 bytes-read-requires c κs = search needs
 
-number-requires : tie.Need-number-requires
-number-requires c κs = search needs
+is-requires : tie.Need-is-requires
+is-requires c κs = search needs
 
 returns-2 : tie.Need-returns-2
-returns-2 c = by-read _ _ _ _ _ (sym (c .before .before .before .before .fold-refusal .ensures) ∙ c .before .before .before .if1 .left) (λ e. c .if2 .taken (e ∙ sym (c .before .number .ensures ∙ c .before .before .bytes-read .ensures)))
+returns-2 c =
+    let a = c .before .before .before .before .before .args .a in
+    let same = c .before .is .ensures ∙ ap (λ (x : ℕ). eqb a x) (c .before .before .bytes-read .ensures) in
+    let p = sym (c .before .before .before .before .fold-refusal .ensures) ∙ c .before .before .before .if1 .left in
+    by-read _ _ _ _ _ p (sym same ∙ not-true _ (c .if2 .taken))
 
 mul-if3 : tie.Need-mul-if3
 mul-if3 c =
@@ -30,10 +37,18 @@ mul-if3 c =
     fits _ (omega (arith, new-product _ (shape-passed _ _ _ p) _ (foldable _ _ _ p .new-most)))
 
 returns-3 : tie.Need-returns-3
-returns-3 c = by-filled _ _ _ _ _ (sym (c .before .before .before .before .before .before .fold-refusal .ensures) ∙ c .before .before .before .before .before .if1 .left) (c .before .before .if2 .left ∙ c .before .before .before .number .ensures ∙ c .before .before .before .before .bytes-read .ensures) (c .if3 .taken)
+returns-3 c =
+    let a = c .before .before .before .before .before .before .before .args .a in
+    let p = sym (c .before .before .before .before .before .before .fold-refusal .ensures) ∙ c .before .before .before .before .before .if1 .left in
+    let same = c .before .before .before .is .ensures ∙ ap (λ (x : ℕ). eqb a x) (c .before .before .before .before .bytes-read .ensures) in
+    by-filled _ _ _ _ _ p (sym same ∙ not-false _ (c .before .before .if2 .left)) (c .if3 .taken)
 
 returns-4 : tie.Need-returns-4
-returns-4 c = by-nothing _ _ _ _ _ (sym (c .before .before .before .before .before .before .fold-refusal .ensures) ∙ c .before .before .before .before .before .if1 .left) (c .before .before .if2 .left ∙ c .before .before .before .number .ensures ∙ c .before .before .before .before .bytes-read .ensures) (c .if3 .left)
+returns-4 c =
+    let a = c .before .before .before .before .before .before .before .args .a in
+    let p = sym (c .before .before .before .before .before .before .fold-refusal .ensures) ∙ c .before .before .before .before .before .if1 .left in
+    let same = c .before .before .before .is .ensures ∙ ap (λ (x : ℕ). eqb a x) (c .before .before .before .before .bytes-read .ensures) in
+    by-nothing _ _ _ _ _ p (sym same ∙ not-false _ (c .before .before .if2 .left)) (c .if3 .left)
 
 pub fold-verdict-spec : {M : Type 1} → statement M
 fold-verdict-spec =
@@ -42,7 +57,7 @@ fold-verdict-spec =
     fold-refusal-requires
     returns
     bytes-read-requires
-    number-requires
+    is-requires
     returns-2
     mul-if3
     returns-3

@@ -12,14 +12,11 @@ shape-of-requires c κs = search needs
 bytes-read-requires : tie.Need-bytes-read-requires
 bytes-read-requires c κs = search needs
 
-number-requires : tie.Need-number-requires
-number-requires c κs = search needs
-
 returns : tie.Need-returns
 returns c =
-    let a = c .before .before .before .args in
-    let same = c .before .before .shape-of .ensures in
-    c .number .ensures ∙ c .before .bytes-read .ensures ∙ ap (λ (s : Shape). bytesRead s (a .stripes) (a .f)) same
+    let a = c .before .before .args in
+    let same = c .before .shape-of .ensures in
+    c .bytes-read .ensures ∙ ap (λ (s : Shape). bytesRead s (a .stripes) (a .f)) same
 
 pub shelf-plan-bytes-read-spec : {M : Type 1} → statement M
-shelf-plan-bytes-read-spec = tie.close (tie.spec shape-of-requires bytes-read-requires number-requires returns)
+shelf-plan-bytes-read-spec = tie.close (tie.spec shape-of-requires bytes-read-requires returns)

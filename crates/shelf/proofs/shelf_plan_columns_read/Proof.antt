@@ -12,14 +12,11 @@ shape-of-requires c κs = search needs
 columns-read-requires : tie.Need-columns-read-requires
 columns-read-requires c κs = search needs
 
-number-requires : tie.Need-number-requires
-number-requires c κs = search needs
-
 returns : tie.Need-returns
 returns c =
-    let a = c .before .before .before .args in
-    let same = c .before .before .shape-of .ensures in
-    c .number .ensures ∙ c .before .columns-read .ensures ∙ ap (λ (s : Shape). columnsRead s (a .stripes) (a .f)) same
+    let a = c .before .before .args in
+    let same = c .before .shape-of .ensures in
+    c .columns-read .ensures ∙ ap (λ (s : Shape). columnsRead s (a .stripes) (a .f)) same
 
 pub shelf-plan-columns-read-spec : {M : Type 1} → statement M
-shelf-plan-columns-read-spec = tie.close (tie.spec shape-of-requires columns-read-requires number-requires returns)
+shelf-plan-columns-read-spec = tie.close (tie.spec shape-of-requires columns-read-requires returns)

@@ -19,23 +19,28 @@ returns c =
     let e = c .before .fold-refusal .ensures ∙ ap (λ (s : Shape). foldRefusal s (a .stripes) (a .f)) (c .before .before .shape-of .ensures) in
     by-refusal _ _ _ _ _ e (c .if1 .taken)
 
-span-count-requires : tie.Need-span-count-requires
-span-count-requires c κs = search needs
+columns-read-requires : tie.Need-columns-read-requires
+columns-read-requires c κs = search needs
+
+number-requires : tie.Need-number-requires
+number-requires c κs = search needs
 
 returns-2 : tie.Need-returns-2
 returns-2 c =
-    let a = c .before .before .before .before .before .args in
-    let same = c .before .before .before .before .shape-of .ensures in
-    let e = c .before .before .before .fold-refusal .ensures ∙ ap (λ (s : Shape). foldRefusal s (a .stripes) (a .f)) same in
-    by-room _ _ _ _ _ (sym e ∙ c .before .before .if1 .left) (c .before .span-count .ensures ∙ ap (λ (s : Shape). columnsRead s (a .stripes) (a .f)) same) (c .if2 .taken)
+    let a = c .before .before .before .before .before .before .args in
+    let same = c .before .before .before .before .before .shape-of .ensures in
+    let e = c .before .before .before .before .fold-refusal .ensures ∙ ap (λ (s : Shape). foldRefusal s (a .stripes) (a .f)) same in
+    let many = c .before .number .ensures ∙ c .before .before .columns-read .ensures in
+    by-room _ _ _ _ _ (sym e ∙ c .before .before .before .if1 .left) (many ∙ ap (λ (s : Shape). columnsRead s (a .stripes) (a .f)) same) (c .if2 .taken)
 
 returns-3 : tie.Need-returns-3
 returns-3 c =
-    let a = c .before .before .before .before .before .args in
-    let same = c .before .before .before .before .shape-of .ensures in
-    let e = c .before .before .before .fold-refusal .ensures ∙ ap (λ (s : Shape). foldRefusal s (a .stripes) (a .f)) same in
-    by-nothing _ _ _ _ _ (sym e ∙ c .before .before .if1 .left) (c .before .span-count .ensures ∙ ap (λ (s : Shape). columnsRead s (a .stripes) (a .f)) same) (c .if2 .left)
+    let a = c .before .before .before .before .before .before .args in
+    let same = c .before .before .before .before .before .shape-of .ensures in
+    let e = c .before .before .before .before .fold-refusal .ensures ∙ ap (λ (s : Shape). foldRefusal s (a .stripes) (a .f)) same in
+    let many = c .before .number .ensures ∙ c .before .before .columns-read .ensures in
+    by-nothing _ _ _ _ _ (sym e ∙ c .before .before .before .if1 .left) (many ∙ ap (λ (s : Shape). columnsRead s (a .stripes) (a .f)) same) (c .if2 .left)
 
 pub spans-answer-spec : {M : Type 1} → statement M
 spans-answer-spec =
-    tie.close (tie.spec shape-of-requires fold-refusal-requires returns span-count-requires returns-2 returns-3)
+    tie.close (tie.spec shape-of-requires fold-refusal-requires returns columns-read-requires number-requires returns-2 returns-3)

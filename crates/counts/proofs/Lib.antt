@@ -1,2 +1,0 @@
-pub mod Capped
-pub mod Unique

@@ -1,5 +1,6 @@
 -- The calls of the shelf daemon.
 use Prim.Native.Nat.{ℕ}
+use mathlib.Core.Path.{_≡_}
 use mathlib.Core.Bool.{cond}
 use mathlib.Core.List.{List}
 use lib.Dec.{eqb, ltb}
@@ -28,3 +29,7 @@ spansAnswer s n f room = record { no = spansRefusal s n f room; spans = spansWri
 -- what the list holds in the end: the plan, and after it what it held; or what it held where the call is refused
 unfoldable pub spansFilled : Shape → ℕ → ℕ → List Span → List Span
 spansFilled s n f xs = cond (eqb (spansRefusal s n f (length xs)) 0) (over xs 0 (plan s n f)) xs
+
+-- the answer v and the list ys in the end, of a call for the spans of a plan with the list xs
+abbrev pub Planned : Shape → ℕ → ℕ → List Span → ℕ → List Span → Type 0
+Planned s n f xs v ys = (v ≡ spansRefusal s n f (length xs)) × (ys ≡ spansFilled s n f xs)

@@ -20,7 +20,7 @@ ghost use Rattle.coding.specs.Encode.{encodeRefusal, encoded};
 ghost use Rattle.plan.specs.Plan.{foldRefusal, columnsRead, bytesRead, spanAt};
 ghost use Rattle.fold.specs.Fold.{foldVerdict, foldFilled};
 ghost use Rattle.mending.specs.Mend.{Mended};
-ghost use Rattle.shelf.specs.Shelf.{shapeOf, spansRefusal, spansAnswer, spansFilled};
+ghost use Rattle.shelf.specs.Shelf.{shapeOf, spansAnswer, Planned};
 
 // The shape of these numbers.
 pub(crate) fn shape_of(k: u64, r: u64, t: u64, l: u64) -> Shape
@@ -156,8 +156,7 @@ pub extern "C" fn shelf_plan_spans(
     f: u64,
     spans: &mut [Span],
 ) -> u32
-    ensures { λ v. ⌜ v ≡ spansRefusal (shapeOf k r t l) stripes f (length (now (spans .entry))) ⌝ }
-    ensures { λ _. ⌜ now (spans .exit) ≡ spansFilled (shapeOf k r t l) stripes f (now (spans .entry)) ⌝ }
+    ensures { λ v. ⌜ Planned (shapeOf k r t l) stripes f (now (spans .entry)) v (now (spans .exit)) ⌝ }
 {
     let answer = spans_answer(k, r, t, l, stripes, f, spans.len());
     let n = answer.spans;

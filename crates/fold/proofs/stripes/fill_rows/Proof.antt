@@ -31,7 +31,11 @@ slice-aggregate-encode : tie.Need-slice-aggregate-encode
 slice-aggregate-encode c =
     let z = c .before .before .before .before .before .before in
     let e = c .before .before .before .part-bytes .ensures in
-    let w = subst (λ (x : ℕ). z .args .s .k * x ≤ length (now (z .args .d))) (sym e) (omega (arith, part-in _ _ (z .pre .0) (λ o. c .before .before .if1 .left (e ∙ o)), z .pre .1 .0)) in
+    let w = subst (λ (x : ℕ). z .args .s .k * x ≤ length (now (z .args .d))) (sym e) (omega (
+      arith,
+      part-in _ _ (z .pre .0) (λ o. c .before .before .if1 .left (e ∙ o)),
+      z .pre .1 .0,
+    )) in
     sym (length-take-le _ (now (z .args .d)) w)
 
 encode-requires : tie.Need-encode-requires
@@ -44,7 +48,8 @@ returns-2 : tie.Need-returns-2
 returns-2 c =
     let z = c .before .before .before .before .before .before .before .before .before .before in
     let e = c .before .before .before .before .before .before .before .part-bytes .ensures in
-    rows-by _ _ (z .pre .0) (λ o. c .before .before .before .before .before .before .if1 .left (e ∙ o)) _ _ e (c .before .before .before .before .before .new .ensures) _ _ _ (z .pre .1 .0) (z .pre .1 .1) (c .before .before .encode .ensures .1)
+    rows-by _ _ (z .pre .0) (λ o. c .before .before .before .before .before .before .if1 .left (e ∙ o)) _ _ e
+    (c .before .before .before .before .before .new .ensures) _ _ _ (z .pre .1 .0) (z .pre .1 .1) (c .before .before .encode .ensures .1)
 
 pub fill-rows-spec : {M : Type 1} → statement M
 fill-rows-spec =

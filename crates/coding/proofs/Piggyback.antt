@@ -13,7 +13,7 @@ use Rattle.field.specs.Field.{_⊕_}
 use Rattle.field.specs.Row.{row}
 use Rattle.field.proofs.Cases.{below-or-from}
 use Rattle.stripe.specs.declared.Shape.{Shape}
-use Rattle.stripe.specs.Stripe.{across, rowAt, runLength, parityByte}
+use Rattle.stripe.specs.Stripe.{across, rowAt, runLength, parityByte, plainRuns}
 use Rattle.stripe.specs.Shape.{mostRows}
 use Rattle.stripe.specs.Column.{lentRefusal}
 use Rattle.rows.specs.Rows.{Added, added}
@@ -56,15 +56,15 @@ pub record Piggybacked (s : Shape) (ds : List ℕ) (i x : ℕ) (ps : List ℕ) :
   pub left : (p : ℕ) → x ≤ p → p < s .l → getD ps (i * s .l + p) 0 ≡ rowAt s ds i p
 
 module _ (s : Shape) (ds : List ℕ) (i m : ℕ) (is : m ≡ runLength s) (some : 0 < m) where
-  pub column-start : (ps : List ℕ) → IsRow s ds i ps → Piggybacked s ds i (s .r * m) ps
+  pub column-start : (ps : List ℕ) → IsRow s ds i ps → Piggybacked s ds i (plainRuns s * m) ps
   column-start ps h =
       record {
-        done = λ p less lp. h p lp ∙ sym (parity-below s ds i p (subst (λ (x : ℕ). p / x < s .r) is (div-lt-iff-lt-mul some .1 less)));
+        done = λ p less lp. h p lp ∙ sym (parity-below s ds i p (subst (λ (x : ℕ). p / x < plainRuns s) is (div-lt-iff-lt-mul some .1 less)));
         left = λ p past lp. h p lp;
       }
 
   -- one run more
-  module _ (j : ℕ) (ps qs : List ℕ) (r : s .r ≤ j) (fits : j * m + m ≤ s .l) (g : Added ds (s .k) (s .l) j (i * m) (i * s .l + j * m) m ps qs) where
+  module _ (j : ℕ) (ps qs : List ℕ) (r : plainRuns s ≤ j) (fits : j * m + m ≤ s .l) (g : Added ds (s .k) (s .l) j (i * m) (i * s .l + j * m) m ps qs) where
     run-byte : (p : ℕ) → j * m ≤ p → p < j * m + m → Piggybacked s ds i (j * m) ps → getD qs (i * s .l + p) 0 ≡ parityByte s ds i p
     unfolding rowAt
     run-byte p past less h =
@@ -76,7 +76,7 @@ module _ (s : Shape) (ds : List ℕ) (i m : ℕ) (is : m ≡ runLength s) (some 
         ap (λ (x : ℕ). getD qs x 0) place ∙ g .inside (p - j * m) (omega arith)
         ∙ ap (λ (x : ℕ). x ⊕ row j (across ds (s .l) (i * m + (p - j * m)) 0 (s .k))) (ap (λ (x : ℕ). getD ps x 0) (sym place) ∙ h .left p past (omega arith))
         ∙ ap₂ (λ (x y : ℕ). rowAt s ds i p ⊕ rowAt s ds x y) (sym run) (ap₂ (λ (x y : ℕ). i * x + y) is (sym byte))
-        ∙ sym (parity-from s ds i p (subst (λ (x : ℕ). s .r ≤ x) (sym run) r))
+        ∙ sym (parity-from s ds i p (subst (λ (x : ℕ). plainRuns s ≤ x) (sym run) r))
 
     pub column-turn : Piggybacked s ds i (j * m) ps → Piggybacked s ds i ((j + 1) * m) qs
     column-turn h =

@@ -17,7 +17,7 @@ use Rattle.field.proofs.Powers.{sum-zero}
 use Rattle.field.proofs.Cases.{zero-or-not}
 use Rattle.stripe.specs.declared.Shape.{Shape}
 use Rattle.stripe.specs.Shape.{shapeRefusal, columns, stripeLength}
-use Rattle.stripe.specs.Stripe.{across, rowAt, parityByte, parity, dataOf, Codeword, Ascending, Agree}
+use Rattle.stripe.specs.Stripe.{across, rowAt, parityByte, parity, dataOf, Codeword, Ascending, Agree, plainRuns}
 use Rattle.stripe.specs.Column.{lentRefusal}
 use Rattle.coding.specs.Encode.{encoded}
 use Rattle.lost.specs.Positions.{positions}
@@ -258,20 +258,20 @@ demand-2-plain s h plain ds i p hi hp = parity-at s ds i p hi hp ∙ plain-parit
 
 -- In a prepared stripe parity column i, run j, holds row i of run j if j < r; if j >= r, row i of run j plus row j of run i.
 module _ (s : Shape) (h : shapeRefusal s ≡ 0) (prepared : s .t ≡ 0 → ⊥) (ds : List ℕ) (i j e : ℕ) (hi : i < s .r) (hj : j < s .t) (he : e < s .l / s .t) where
-  pub demand-2-prepared : j < s .r
+  pub demand-2-prepared : j < plainRuns s
       → getD (parity s ds) (i * s .l + (j * (s .l / s .t) + e)) 0 ≡ row i (across ds (s .l) (j * (s .l / s .t) + e) 0 (s .k))
   unfolding rowAt
   demand-2-prepared low =
       let at = in-run s h prepared j e hj he in
-      parity-at s ds i _ hi (at .inside) ∙ parity-below s ds i _ (subst (λ (x : ℕ). x < s .r) (sym (at .run)) low)
+      parity-at s ds i _ hi (at .inside) ∙ parity-below s ds i _ (subst (λ (x : ℕ). x < plainRuns s) (sym (at .run)) low)
 
-  pub demand-2-piggyback : s .r ≤ j
+  pub demand-2-piggyback : plainRuns s ≤ j
       → getD (parity s ds) (i * s .l + (j * (s .l / s .t) + e)) 0
       ≡ row i (across ds (s .l) (j * (s .l / s .t) + e) 0 (s .k)) ⊕ row j (across ds (s .l) (i * (s .l / s .t) + e) 0 (s .k))
   unfolding rowAt
   demand-2-piggyback high =
       let at = in-run s h prepared j e hj he in
-      parity-at s ds i _ hi (at .inside) ∙ parity-from s ds i _ (subst (λ (x : ℕ). s .r ≤ x) (sym (at .run)) high)
+      parity-at s ds i _ hi (at .inside) ∙ parity-from s ds i _ (subst (λ (x : ℕ). plainRuns s ≤ x) (sym (at .run)) high)
       ∙ ap (λ (x : ℕ). rowAt s ds i (j * (s .l / s .t) + e) ⊕ x) (ap₂ (rowAt s ds) (at .run) (ap₂ (λ (w b : ℕ). i * w + b) (at .width) (at .byte)))
 
 -- Any k columns of a codeword determine it, and any bytes in any k columns belong to one.

@@ -14,7 +14,7 @@ use Rattle.field.proofs.Xor.{add-zero, sums}
 use Rattle.field.proofs.Cases.{below-or-from}
 use Rattle.stripe.specs.declared.Shape.{Shape}
 use Rattle.stripe.specs.Shape.{stripeLength}
-use Rattle.stripe.specs.Stripe.{across, rowAt, runLength, dataOf}
+use Rattle.stripe.specs.Stripe.{across, rowAt, runLength, dataOf, plainRuns}
 use Rattle.stripe.proofs.Allowed.{Allowed, Prepared}
 use Rattle.stripe.proofs.Places.{place-lt, place-column, place-byte, place-split, place-column-lt, across-length, across-first, row-at-stripe, parity-below}
 use Rattle.stripe.proofs.Places.{parity-from, plain-parity}
@@ -87,7 +87,7 @@ module _ (s : Shape) (zs : List ℕ) (a : Allowed s) (long : length zs ≡ strip
     parity-read i p hi hp = b-parity-at s zs long f h whole i p hi hp
 
     -- the rows of the runs read
-    row-read : (i b e : ℕ) → s .r ≤ b → b < s .t → e < q → readRow s (readOf B s f zs) i b e ≡ rowAt s ds i (b * q + e)
+    row-read : (i b e : ℕ) → plainRuns s ≤ b → b < s .t → e < q → readRow s (readOf B s f zs) i b e ≡ rowAt s ds i (b * q + e)
     unfolding readRow
     row-read i b e lo hb he =
         ap (row i)
@@ -104,25 +104,25 @@ module _ (s : Shape) (zs : List ℕ) (a : Allowed s) (long : length zs ≡ strip
 
     run-share : (j b e : ℕ) → j < s .t → b < s .t → e < q → runShare s (readOf B s f zs) j b e ≡ rowAt s ds j (b * q + e) ⊕ runCarried s zs j b e
     unfolding runShare runCarried disagreement
-    run-share j b e hj hb he = go (below-or-from b (s .r)) (below-or-from j (s .r))
+    run-share j b e hj hb he = go (below-or-from b (plainRuns s)) (below-or-from j (s .r))
       where
-        go : (b < s .r) ⊎ (s .r ≤ b) → (j < s .r) ⊎ (s .r ≤ j)
+        go : (b < plainRuns s) ⊎ (plainRuns s ≤ b) → (j < s .r) ⊎ (s .r ≤ j)
             → runShare s (readOf B s f zs) j b e ≡ rowAt s ds j (b * q + e) ⊕ runCarried s zs j b e
         go (inl lb) (inl lj) =
-            simp (lt-ltb b (s .r) lb, lt-ltb j (s .r) lj)
+            simp (lt-ltb b (plainRuns s) lb, lt-ltb j (s .r) lj)
             (parity-read j (b * q + e) lj (place-in b e hb he)
             ∙ apart (getD zs ((s .k + j) * s .l + (b * q + e)) 0) (rowAt s ds j (b * q + e))
             ∙ ap (λ (x : ℕ). rowAt s ds j (b * q + e) ⊕ (getD zs ((s .k + j) * s .l + (b * q + e)) 0 ⊕ x))
             (sym (parity-below s ds j (b * q + e) (subst (λ (x : ℕ). x < s .r) (sym (run-of b e he)) lb))))
         go (inl lb) (inr gj) =
-            simp (lt-ltb b (s .r) lb, le-ltb j (s .r) gj)
+            simp (lt-ltb b (plainRuns s) lb, le-ltb j (s .r) gj)
             (ap₂ _⊕_ (parity-read b (j * q + e) lb (place-in j e hj he)) (row-read b j e gj hj he)
             ∙ apart-two (getD zs ((s .k + b) * s .l + (j * q + e)) 0) (rowAt s ds b (j * q + e)) (rowAt s ds j (b * q + e))
             ∙ ap (λ (x : ℕ). rowAt s ds j (b * q + e) ⊕ (getD zs ((s .k + b) * s .l + (j * q + e)) 0 ⊕ x))
             (sym (parity-from s ds b (j * q + e) (subst (λ (x : ℕ). s .r ≤ x) (sym (run-of j e he)) gj)
             ∙ ap₂ (λ (x y : ℕ). rowAt s ds b (j * q + e) ⊕ rowAt s ds x y) (run-of j e he)
             (ap (λ (y : ℕ). b * q + y) (in-run j e he)))))
-        go (inr gb) w = simp (le-ltb b (s .r) gb) (row-read j b e gb hb he ∙ sym (add-zero (rowAt s ds j (b * q + e))))
+        go (inr gb) w = simp (le-ltb b (plainRuns s) gb) (row-read j b e gb hb he ∙ sym (add-zero (rowAt s ds j (b * q + e))))
 
     b-share : (j p : ℕ) → j < s .t → p < s .l → share B s (readOf B s f zs) j p ≡ rowAt s ds j p ⊕ carried B s zs j p
     unfolding carried

@@ -14,7 +14,7 @@ use Rattle.field.specs.Field.{_⊕_}
 use Rattle.field.proofs.Bytes.{tabulate-length, tabulate-at}
 use Rattle.field.proofs.Cases.{below-or-from}
 use Rattle.stripe.specs.declared.Shape.{Shape}
-use Rattle.stripe.specs.Stripe.{runs, runLength}
+use Rattle.stripe.specs.Stripe.{runs, runLength, plainRuns}
 use Rattle.stripe.specs.Shape.{mostRows}
 use Rattle.stripe.proofs.Allowed.{Allowed, Prepared, allowed, plain-runs, prepared-runs, plain-run-length, prepared-run-length}
 use Rattle.stripe.proofs.Places.{place-lt, place-column, place-byte, place-split, place-column-lt, place-byte-lt, column-inside}
@@ -88,17 +88,18 @@ module _ (s : Shape) (f j b : ℕ) (a : Allowed s) (h : Prepared s) (marked : s 
   whole : s .t * runLength s ≡ s .l
   whole = run-whole s h a
 
-  from-parity : s .r ≤ b → shareOf s j b ≡ Row (j * partBytes s + (b - s .r) * runLength s)
+  from-parity : plainRuns s ≤ b → shareOf s j b ≡ Row (j * partBytes s + (b - s .r) * runLength s)
   unfolding shareOf
-  from-parity gb = simp (ne-eqb (s .t) 0 marked-not, le-ltb b (s .r) gb)
+  from-parity gb = simp (ne-eqb (s .t) 0 marked-not, le-ltb b (plainRuns s) gb)
 
-  below-below : b < s .r → j < s .r → shareOf s j b ≡ Read (s .k * partBytes s + (j * s .l + b * runLength s))
+  below-below : b < plainRuns s → j < s .r → shareOf s j b ≡ Read (s .k * partBytes s + (j * s .l + b * runLength s))
   unfolding shareOf
-  below-below lb lj = simp (ne-eqb (s .t) 0 marked-not, lt-ltb b (s .r) lb, lt-ltb j (s .r) lj)
+  below-below lb lj = simp (ne-eqb (s .t) 0 marked-not, lt-ltb b (plainRuns s) lb, lt-ltb j (s .r) lj)
 
-  below-from : b < s .r → s .r ≤ j → shareOf s j b ≡ Both (s .k * partBytes s + (b * s .l + j * runLength s)) (b * partBytes s + (j - s .r) * runLength s)
+  below-from : b < plainRuns s → s .r ≤ j
+      → shareOf s j b ≡ Both (s .k * partBytes s + (b * s .l + j * runLength s)) (b * partBytes s + (j - s .r) * runLength s)
   unfolding shareOf
-  below-from lb gj = simp (ne-eqb (s .t) 0 marked-not, lt-ltb b (s .r) lb, le-ltb j (s .r) gj)
+  below-from lb gj = simp (ne-eqb (s .t) 0 marked-not, lt-ltb b (plainRuns s) lb, le-ltb j (s .r) gj)
 
   in-parity : (i c : ℕ) → i < s .r → c < s .t → s .k * partBytes s + (i * s .l + c * runLength s) + runLength s ≤ bytesEach B s f
   in-parity i c hi hc =
@@ -115,13 +116,13 @@ module _ (s : Shape) (f j b : ℕ) (a : Allowed s) (h : Prepared s) (marked : s 
 
   b-within : Within (shareOf s j b) (runLength s) (bytesEach B s f) (f * partBytes s)
   unfolding Within
-  b-within = go (below-or-from b (s .r)) (below-or-from j (s .r))
+  b-within = go (below-or-from b (plainRuns s)) (below-or-from j (s .r))
     where
       by : (σ : Share) → shareOf s j b ≡ σ → Within σ (runLength s) (bytesEach B s f) (f * partBytes s)
           → Within (shareOf s j b) (runLength s) (bytesEach B s f) (f * partBytes s)
       by σ e w = subst (λ (τ : Share). Within τ (runLength s) (bytesEach B s f) (f * partBytes s)) (sym e) w
 
-      go : (b < s .r) ⊎ (s .r ≤ b) → (j < s .r) ⊎ (s .r ≤ j) → Within (shareOf s j b) (runLength s) (bytesEach B s f) (f * partBytes s)
+      go : (b < plainRuns s) ⊎ (plainRuns s ≤ b) → (j < s .r) ⊎ (s .r ≤ j) → Within (shareOf s j b) (runLength s) (bytesEach B s f) (f * partBytes s)
       go (inl lb) (inl lj) = by _ (below-below lb lj) (in-parity j b lj bt)
       go (inl lb) (inr gj) = by _ (below-from lb gj) (in-parity b j lb jt, in-rows b j (omega arith) gj jt)
       go (inr gb) w = by _ (from-parity gb) (in-rows j b hj gb bt)
@@ -138,18 +139,18 @@ module _ (s : Shape) (f j b : ℕ) (a : Allowed s) (h : Prepared s) (marked : s 
 
     run-same : shareAt (shareOf s j b) xs rs e ≡ runShare s xs j b e
     unfolding runShare readParity shareAt
-    run-same = go (below-or-from b (s .r)) (below-or-from j (s .r))
+    run-same = go (below-or-from b (plainRuns s)) (below-or-from j (s .r))
       where
-        go : (b < s .r) ⊎ (s .r ≤ b) → (j < s .r) ⊎ (s .r ≤ j) → shareAt (shareOf s j b) xs rs e ≡ runShare s xs j b e
+        go : (b < plainRuns s) ⊎ (plainRuns s ≤ b) → (j < s .r) ⊎ (s .r ≤ j) → shareAt (shareOf s j b) xs rs e ≡ runShare s xs j b e
         go (inl lb) (inl lj) =
             ap (λ (σ : Share). shareAt σ xs rs e) (below-below lb lj)
-            ∙ simp (lt-ltb b (s .r) lb, lt-ltb j (s .r) lj) (stored (s .k * partBytes s) (j * s .l) (b * runLength s))
+            ∙ simp (lt-ltb b (plainRuns s) lb, lt-ltb j (s .r) lj) (stored (s .k * partBytes s) (j * s .l) (b * runLength s))
         go (inl lb) (inr gj) =
             ap (λ (σ : Share). shareAt σ xs rs e) (below-from lb gj)
-            ∙ simp (lt-ltb b (s .r) lb, le-ltb j (s .r) gj)
+            ∙ simp (lt-ltb b (plainRuns s) lb, le-ltb j (s .r) gj)
             (ap₂ _⊕_ (stored (s .k * partBytes s) (b * s .l) (j * runLength s)) (row-stored b j (omega arith) gj jt))
         go (inr gb) w =
-            ap (λ (σ : Share). shareAt σ xs rs e) (from-parity gb) ∙ simp (le-ltb b (s .r) gb) (row-stored j b hj gb bt)
+            ap (λ (σ : Share). shareAt σ xs rs e) (from-parity gb) ∙ simp (le-ltb b (plainRuns s) gb) (row-stored j b hj gb bt)
 
     b-same : shareAt (shareOf s j b) xs rs e ≡ share B s xs j (b * runLength s + e)
     b-same =

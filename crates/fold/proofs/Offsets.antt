@@ -33,9 +33,9 @@ module _ (s : Shape) (passed : shapeRefusal s ≡ 0) where
   pub data-part-bytes : s .k * partBytes s ≤ 3133440
   data-part-bytes =
       let a = allowed s passed in
-      let run : runLength s ≤ 4096 = omega (arith, a .run-most, a .length-most) in
-      mul-le-mul (data-small s passed) (mul-le-mul {n₂ = 3} (rest (a .mark)) run)
+      let run : runLength s ≤ mostLength = omega (arith, a .run-most, a .length-most) in
+      mul-le-mul (data-small s passed) (mul-le-mul {n₂ = mostRows} (rest (a .mark)) run)
     where
-      rest : (s .t ≡ 0) ⊎ Prepared s → s .t - s .r ≤ 3
+      rest : (s .t ≡ 0) ⊎ Prepared s → s .t - s .r ≤ mostRows
       rest (inl e) = omega arith
       rest (inr h) = let m = h .mark-most in omega arith

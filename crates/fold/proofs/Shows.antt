@@ -17,7 +17,7 @@ use Rattle.field.proofs.Cases.{below-or-from}
 use Rattle.field.proofs.Bytes.{append-bytes, take-bytes}
 use Rattle.stripe.specs.declared.Shape.{Shape}
 use Rattle.stripe.specs.Shape.{dataLength, stripeLength}
-use Rattle.stripe.specs.Stripe.{runLength, parityByte, parity, dataOf, Codeword}
+use Rattle.stripe.specs.Stripe.{runLength, parityByte, parity, dataOf, Codeword, plainRuns}
 use Rattle.stripe.proofs.Allowed.{Allowed, Prepared}
 use Rattle.stripe.proofs.Places.{place-lt, place-column, place-byte, place-split, place-column-lt, parity-exact, parity-byte-lt, codeword-checks}
 use Rattle.plan.specs.declared.Kind.{Kind}
@@ -41,17 +41,17 @@ disagreement-lt s zs i p b = add-lt 8 _ _ (b ((s .k + i) * s .l + p)) (parity-by
 -- ---- where a disagreement is carried to, run by run
 
 module _ (s : Shape) (zs : List ℕ) (j b e : ℕ) where
-  carried-low : b < s .r → j < s .r → runCarried s zs j b e ≡ disagreement s zs j (b * runLength s + e)
+  carried-low : b < plainRuns s → j < s .r → runCarried s zs j b e ≡ disagreement s zs j (b * runLength s + e)
   unfolding runCarried
-  carried-low lb lj = simp (lt-ltb b (s .r) lb, lt-ltb j (s .r) lj)
+  carried-low lb lj = simp (lt-ltb b (plainRuns s) lb, lt-ltb j (s .r) lj)
 
-  carried-high : b < s .r → s .r ≤ j → runCarried s zs j b e ≡ disagreement s zs b (j * runLength s + e)
+  carried-high : b < plainRuns s → s .r ≤ j → runCarried s zs j b e ≡ disagreement s zs b (j * runLength s + e)
   unfolding runCarried
-  carried-high lb gj = simp (lt-ltb b (s .r) lb, le-ltb j (s .r) gj)
+  carried-high lb gj = simp (lt-ltb b (plainRuns s) lb, le-ltb j (s .r) gj)
 
-  carried-none : s .r ≤ b → runCarried s zs j b e ≡ 0
+  carried-none : plainRuns s ≤ b → runCarried s zs j b e ≡ 0
   unfolding runCarried
-  carried-none gb = simp (le-ltb b (s .r) gb)
+  carried-none gb = simp (le-ltb b (plainRuns s) gb)
 
 module _ (s : Shape) (a : Allowed s) (h : Prepared s) where
   abbrev q : ℕ
@@ -69,9 +69,9 @@ module _ (s : Shape) (a : Allowed s) (h : Prepared s) where
   -- what is carried is the disagreement at one of the stripe's places, or nothing
   run-from : (zs : List ℕ) (P : ℕ → Type 0) → P 0 → ((i p : ℕ) → i < s .r → p < s .l → P (disagreement s zs i p))
       → (j p : ℕ) → j < s .t → p < s .l → P (runCarried s zs j (p / q) (p % q))
-  run-from zs P none d j p hj hp = go (below-or-from (p / q) (s .r)) (below-or-from j (s .r))
+  run-from zs P none d j p hj hp = go (below-or-from (p / q) (plainRuns s)) (below-or-from j (s .r))
     where
-      go : (p / q < s .r) ⊎ (s .r ≤ p / q) → (j < s .r) ⊎ (s .r ≤ j) → P (runCarried s zs j (p / q) (p % q))
+      go : (p / q < plainRuns s) ⊎ (plainRuns s ≤ p / q) → (j < s .r) ⊎ (s .r ≤ j) → P (runCarried s zs j (p / q) (p % q))
       go (inl lb) (inl lj) =
           subst P (sym (carried-low s zs j (p / q) (p % q) lb lj)) (d j (p / q * q + p % q) lj (place-in (p / q) (p % q) (run-lt p hp) (in-lt p)))
       go (inl lb) (inr gj) =
@@ -81,12 +81,12 @@ module _ (s : Shape) (a : Allowed s) (h : Prepared s) where
   -- and each of the stripe's parity bytes is carried somewhere
   run-onto : (zs : List ℕ) (i p : ℕ) → i < s .r → p < s .l
       → ((j x : ℕ) → j < s .t → x < s .l → runCarried s zs j (x / q) (x % q) ≡ 0) → disagreement s zs i p ≡ 0
-  run-onto zs i p hi hp none = go (below-or-from (p / q) (s .r))
+  run-onto zs i p hi hp none = go (below-or-from (p / q) (plainRuns s))
     where
       g : s .r < s .t
       g = h .gains
 
-      go : (p / q < s .r) ⊎ (s .r ≤ p / q) → disagreement s zs i p ≡ 0
+      go : (p / q < plainRuns s) ⊎ (plainRuns s ≤ p / q) → disagreement s zs i p ≡ 0
       go (inl lb) =
           ap (λ (x : ℕ). disagreement s zs i x) (sym (place-split p q))
           ∙ sym (carried-low s zs i (p / q) (p % q) lb hi) ∙ none i p (omega arith) hp

@@ -9,7 +9,7 @@ use Rattle.field.specs.Field.{_⊕_}
 use Rattle.field.specs.Bytes.{tabulate}
 use Rattle.field.specs.Row.{row}
 use Rattle.stripe.specs.declared.Shape.{Shape}
-use Rattle.stripe.specs.Stripe.{across, runLength, parityByte, dataOf}
+use Rattle.stripe.specs.Stripe.{across, runLength, parityByte, dataOf, plainRuns}
 use Rattle.plan.specs.declared.Span.{Span}
 use Rattle.plan.specs.declared.Kind.{Kind}
 use Rattle.plan.specs.declared.Kind.the-variants.{A, B, C}
@@ -19,7 +19,7 @@ use Rattle.plan.specs.Plan.{foldRefusal, kindOf, bytesEach, bytesRead, kindSpan
 
 -- the bytes read of a data column
 abbrev pub partBytes : Shape → ℕ
-partBytes s = (s .t - s .r) * runLength s
+partBytes s = (s .t - plainRuns s) * runLength s
 
 -- the byte of parity column i at place p
 unfoldable pub readParity : Shape → List ℕ → ℕ → ℕ → ℕ
@@ -27,13 +27,13 @@ readParity s xs i p = getD xs (s .k * partBytes s + (i * s .l + p)) 0
 
 -- row i of run b of the data, at place e of the run; b >= r
 unfoldable pub readRow : Shape → List ℕ → ℕ → ℕ → ℕ → ℕ
-readRow s xs i b e = row i (across xs (partBytes s) ((b - s .r) * runLength s + e) 0 (s .k))
+readRow s xs i b e = row i (across xs (partBytes s) ((b - plainRuns s) * runLength s + e) 0 (s .k))
 
 -- what a stripe adds to wide row j at place e of run b. If b >= r: row j of the data. If b < r: run b of parity column j if
 -- j < r; if j >= r, run j of parity column b plus row b of run j
 unfoldable pub runShare : Shape → List ℕ → ℕ → ℕ → ℕ → ℕ
 runShare s xs j b e =
-    cond (ltb b (s .r))
+    cond (ltb b (plainRuns s))
     (cond (ltb j (s .r)) (readParity s xs j (b * runLength s + e))
     (readParity s xs b (j * runLength s + e) ⊕ readRow s xs b j e))
     (readRow s xs j b e)
@@ -117,7 +117,7 @@ parityNamed C s f = 0
 -- the disagreement of a stripe that its fold carries on to place e of run b of wide row j: none if b >= r
 unfoldable pub runCarried : Shape → List ℕ → ℕ → ℕ → ℕ → ℕ
 runCarried s zs j b e =
-    cond (ltb b (s .r))
+    cond (ltb b (plainRuns s))
     (cond (ltb j (s .r)) (disagreement s zs j (b * runLength s + e)) (disagreement s zs b (j * runLength s + e)))
     0
 

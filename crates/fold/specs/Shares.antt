@@ -12,7 +12,7 @@ use Rattle.field.specs.Row.{row}
 use Rattle.lanes.specs.Lanes.{onto}
 use Rattle.stripe.specs.declared.Shape.{Shape}
 use Rattle.stripe.specs.Shape.{shapeRefusal}
-use Rattle.stripe.specs.Stripe.{across, runLength}
+use Rattle.stripe.specs.Stripe.{across, runLength, plainRuns}
 use Rattle.plan.specs.declared.Kind.the-variants.{C}
 use Rattle.plan.specs.Plan.{newAllowed, kindOf}
 use Rattle.fold.specs.declared.shares.Share.{Share}
@@ -59,10 +59,10 @@ pub record Summed (first : Bool) (w : ℕ) (v : ℕ → ℕ) (xs ys : List ℕ) 
 unfoldable pub shareOf : Shape → ℕ → ℕ → Share
 shareOf s j b =
     cond (eqb (s .t) 0) (Read (j * s .l))
-    (cond (ltb b (s .r))
+    (cond (ltb b (plainRuns s))
     (cond (ltb j (s .r)) (Read (s .k * partBytes s + (j * s .l + b * runLength s)))
-    (Both (s .k * partBytes s + (b * s .l + j * runLength s)) (b * partBytes s + (j - s .r) * runLength s)))
-    (Row (j * partBytes s + (b - s .r) * runLength s)))
+    (Both (s .k * partBytes s + (b * s .l + j * runLength s)) (b * partBytes s + (j - plainRuns s) * runLength s)))
+    (Row (j * partBytes s + (b - plainRuns s) * runLength s)))
 
 -- the wide parity ys once a stripe is taken in, from the bytes read of it
 unfoldable pub taken : Shape → ℕ → Bool → List ℕ → List ℕ → List ℕ

@@ -18,7 +18,7 @@ use Rattle.field.proofs.Solve.{solve-same, solve-moment, solved}
 use Rattle.field.proofs.Cases.{below-or-from}
 use Rattle.stripe.specs.declared.Shape.{Shape}
 use Rattle.stripe.specs.Shape.{columns, mostParity}
-use Rattle.stripe.specs.Stripe.{runs, among, Ascending}
+use Rattle.stripe.specs.Stripe.{runs, among, Ascending, plainRuns}
 use Rattle.stripe.proofs.Allowed.{Allowed, allowed, plain-runs}
 use Rattle.stripe.proofs.Survivors.{Spread, firstRow, rowStep}
 use Rattle.stripe.proofs.Lost.{lostData, rowLost, lost-data-ascending, ascending-at}
@@ -312,7 +312,7 @@ planned s w e x a d r he front from ea ed =
     below (suc v) h (inr q) =
         omega (arith, q .1 .1 .1, at 0 (omega arith), at (suc v) (omega arith), ascending-apart 0 (suc v) 0 (columns s) (lostList w) (r .ascend) (omega arith) (omega (arith, long)))
 
-    plain : s .r < runs s → PivotOf (s .t) e (w .count) (getD (w .at) 0 0) x → x ≡ 0
+    plain : plainRuns s < runs s → PivotOf (s .t) e (w .count) (getD (w .at) 0 0) x → x ≡ 0
     plain h (inl z) = z
     plain h (inr q) = absurd (omega (arith, plain-runs s (q .0), f .parity-some))
 

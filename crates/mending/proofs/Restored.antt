@@ -15,7 +15,7 @@ use Rattle.field.proofs.Cases.{below-or-from}
 use Rattle.field.proofs.Bytes.{tabulate-length}
 use Rattle.stripe.specs.declared.Shape.{Shape}
 use Rattle.stripe.specs.Shape.{shapeRefusal, columns, dataLength, stripeLength}
-use Rattle.stripe.specs.Stripe.{runLength, parityByte, dataOf, among, Ascending}
+use Rattle.stripe.specs.Stripe.{runLength, parityByte, dataOf, among, Ascending, plainRuns}
 use Rattle.stripe.proofs.Allowed.{Allowed, allowed}
 use Rattle.stripe.proofs.Places.{place-lt, by-places, across-first, data-of-length, checks-codeword}
 use Rattle.stripe.proofs.Mended.{checkAt, wanted, wordAt, wanted-below, wanted-from, dataMended, data-mended-length, data-mended-at, mended-parity-below, mended-parity-from, parity-wanted, mended-agrees-exactly}
@@ -58,9 +58,9 @@ module _ (s : Shape) (h : shapeRefusal s ≡ 0) (p : Plan) (w : Planned s p) (xs
         ∙ sym (data-mended-at s (lostIn p) xs c y hc hy))
 
     lost-row : (i y : ℕ) → i < s .r → y < s .l → among (s .k + i) (lostIn p) ≡ true → rowByte s ys (s .k + i) y ≡ parityByte s (dataMended s (lostIn p) xs) i y
-    lost-row i y hi hy m = added-row s facts p w slots xs ys bs t a i y hi hy m ∙ go (below-or-from (y / runLength s) (s .r))
+    lost-row i y hi hy m = added-row s facts p w slots xs ys bs t a i y hi hy m ∙ go (below-or-from (y / runLength s) (plainRuns s))
       where
-        go : (y / runLength s < s .r) ⊎ (s .r ≤ y / runLength s)
+        go : (y / runLength s < plainRuns s) ⊎ (plainRuns s ≤ y / runLength s)
             → checkAt s xs y i ⊕ (wanted s (lostIn p) xs y i ⊕ row i (wordAt s (lostIn p) xs y)) ≡ parityByte s (dataMended s (lostIn p) xs) i y
         go (inl l) =
             ap (λ (z : ℕ). checkAt s xs y i ⊕ (z ⊕ row i (wordAt s (lostIn p) xs y))) (wanted-below s (lostIn p) xs y i l) ∙ add-cancel _ _

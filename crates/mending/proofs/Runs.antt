@@ -16,7 +16,7 @@ use Rattle.field.proofs.Solve.{solve-same}
 use Rattle.field.proofs.Cases.{below-or-from}
 use Rattle.stripe.specs.declared.Shape.{Shape}
 use Rattle.stripe.specs.Shape.{parityLength, mostParity, mostLength, mostParityLength}
-use Rattle.stripe.specs.Stripe.{runs, runLength, dataOf, rowAt}
+use Rattle.stripe.specs.Stripe.{runs, runLength, dataOf, rowAt, plainRuns}
 use Rattle.stripe.proofs.Allowed.{Allowed}
 use Rattle.stripe.proofs.Places.{place-column, place-byte, across-length, parity-below, parity-from, row-at-stripe}
 use Rattle.stripe.proofs.Lost.{lostData}
@@ -77,7 +77,7 @@ module _ (s : Shape) (f : Allowed s) (p : Plan) (w : Planned s p) (xs : List ℕ
 
     -- what row j lacks at the places of the run
     lack-here : (j q : ℕ) → j < s .r → q < runLength s → gpow (j * p .pivot) ⊗ rowByte s us j (place q) ≡ lackAt s p xs (place q) j
-    lack-here j q hj hq = go (below-or-from b (s .r))
+    lack-here j q hj hq = go (below-or-from b (plainRuns s))
       where
         run-is : place q / runLength s ≡ b
         run-is = place-column b hq
@@ -88,20 +88,20 @@ module _ (s : Shape) (f : Allowed s) (p : Plan) (w : Planned s p) (xs : List ℕ
         lies : Lies s (p .pivot) xs ys j (place q)
         lies = t .rest j (place q) hj (omega arith) (in-column q hq)
 
-        go : (b < s .r) ⊎ (s .r ≤ b) → gpow (j * p .pivot) ⊗ rowByte s us j (place q) ≡ lackAt s p xs (place q) j
+        go : (b < plainRuns s) ⊎ (plainRuns s ≤ b) → gpow (j * p .pivot) ⊗ rowByte s us j (place q) ≡ lackAt s p xs (place q) j
         go (inl h) =
-            let below : place q / runLength s < s .r = subst (λ (z : ℕ). z < s .r) (sym run-is) h in
+            let below : place q / runLength s < plainRuns s = subst (λ (z : ℕ). z < plainRuns s) (sym run-is) h in
             ap (λ (z : ℕ). gpow (j * p .pivot) ⊗ z) (c .off j (place q) hj (in-column q hq) (inl h)) ∙ lies
             ∙ ap₂ _⊕_ (sym (wanted-below s (lostIn p) xs (place q) j below))
             (parity-below s (dataOf s xs) j (place q) below ∙ row-at-stripe s xs j (place q) (in-column q hq))
         go (inr h) =
-            let from : s .r ≤ place q / runLength s = subst (λ (z : ℕ). s .r ≤ z) (sym run-is) h in
+            let from : plainRuns s ≤ place q / runLength s = subst (λ (z : ℕ). plainRuns s ≤ z) (sym run-is) h in
             let none : p .pivot ≡ 0 = w .pivot-plain (omega arith) in
             let y : ℕ = j * runLength s + q in
             let earlier : j + 1 ≤ b = omega arith in
             let before : y < b * runLength s = omega (arith, mul-le-mul-right (runLength s) earlier, add-mul j 1 (runLength s)) in
             let inside : y < s .l = omega (arith, run-ends) in
-            let there : y / runLength s < s .r = subst (λ (z : ℕ). z < s .r) (sym (place-column j hq)) hj in
+            let there : y / runLength s < plainRuns s = subst (λ (z : ℕ). z < plainRuns s) (sym (place-column j hq)) hj in
             by-one j (p .pivot) _ none (bu _)
             ∙ c .on j q h hj hq
             ∙ ap₂ _⊕_
@@ -189,13 +189,13 @@ runs-start s p xs ys h =
 
 -- ---- what is carried, row by row
 
-pub carried-none : (s : Shape) (p : Plan) (b j : ℕ) (ys : List ℕ) → b < s .r → Carried s p b j ys ys
+pub carried-none : (s : Shape) (p : Plan) (b j : ℕ) (ys : List ℕ) → b < plainRuns s → Carried s p b j ys ys
 carried-none s p b j ys h = record { long = refl; on = λ i q k hi hq. absurd (omega arith); off = λ i y hi hy o. refl }
 
 pub carried-start : (s : Shape) (p : Plan) (b : ℕ) (ys : List ℕ) → Carried s p b 0 ys ys
 carried-start s p b ys = record { long = refl; on = λ i q k hi hq. absurd (omega arith); off = λ i y hi hy o. refl }
 
-module _ (s : Shape) (f : Allowed s) (p : Plan) (w : Planned s p) (b j m : ℕ) (hm : m ≡ runLength s) (hb : b < runs s) (from : s .r ≤ b) (hj : j < s .r) where
+module _ (s : Shape) (f : Allowed s) (p : Plan) (w : Planned s p) (b j m : ℕ) (hm : m ≡ runLength s) (hb : b < runs s) (from : plainRuns s ≤ b) (hj : j < s .r) where
   ends : (i : ℕ) → i ≤ b → i * runLength s + runLength s ≤ s .l
   ends i h =
       let l : i + 1 ≤ runs s = omega arith in omega (arith, f .cut, mul-le-mul-right (runLength s) l, add-mul i 1 (runLength s))
@@ -237,7 +237,7 @@ module _ (s : Shape) (f : Allowed s) (p : Plan) (w : Planned s p) (b j m : ℕ) 
       errors-kept i q v hi hq hv =
           t .off (p .first + p .step * v) (i * runLength s + q) (row-below s f p w v hv) (omega (arith, ends i (omega arith))) (inr (inr (inl (omega (arith, earlier i hi)))))
 
-      on : (i q : ℕ) → s .r ≤ b → i < j + 1 → q < runLength s
+      on : (i q : ℕ) → plainRuns s ≤ b → i < j + 1 → q < runLength s
           → rowByte s zs i (b * runLength s + q)
           ≡ rowByte s xs i (b * runLength s + q) ⊕ weighted (points b (gone s p)) (λ v. rowByte s xs (p .first + p .step * v) (i * runLength s + q))
       on i q k hi hq = go (below-or-from i j)
@@ -255,7 +255,7 @@ module _ (s : Shape) (f : Allowed s) (p : Plan) (w : Planned s p) (b j m : ℕ) 
               ∙ errors-kept j q v hj hq (omega (arith, points-length b (gone s p), count-is s f p w))
               ∙ ap (λ (z : ℕ). rowByte s xs (p .first + p .step * v) (z * runLength s + q)) (sym e)))
 
-      off : (i y : ℕ) → i < s .r → y < s .l → (b < s .r) ⊎ ((j + 1 ≤ i) ⊎ Outside (b * runLength s) (runLength s) y) → rowByte s zs i y ≡ rowByte s xs i y
+      off : (i y : ℕ) → i < s .r → y < s .l → (b < plainRuns s) ⊎ ((j + 1 ≤ i) ⊎ Outside (b * runLength s) (runLength s) y) → rowByte s zs i y ≡ rowByte s xs i y
       off i y hi hy (inl h) = absurd (omega arith)
       off i y hi hy (inr (inl h)) = kept i y hy (inl (λ e. omega arith)) ∙ t .off i y hi hy (inr (inl (omega arith)))
       off i y hi hy (inr (inr h)) = kept i y hy (inr h) ∙ t .off i y hi hy (inr (inr h))

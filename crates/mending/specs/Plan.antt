@@ -7,7 +7,7 @@ use mathlib.Core.List.{List, [], _∷_}
 use lib.ListN.{length, getD, take}
 use Rattle.stripe.specs.declared.Shape.{Shape}
 use Rattle.stripe.specs.Shape.{columns}
-use Rattle.stripe.specs.Stripe.{runs, among, Ascending}
+use Rattle.stripe.specs.Stripe.{runs, among, Ascending, plainRuns}
 use Rattle.stripe.proofs.Survivors.{firstRow, rowStep}
 use Rattle.stripe.proofs.Lost.{lostData, rowLost}
 use Rattle.mending.specs.declared.plan.Plan.{Plan}
@@ -47,6 +47,6 @@ pub record Planned (s : Shape) (p : Plan) : Type 0 where
   pub first-is : p .first ≡ firstRow (rowLost (s .k) (lostIn p))
   pub step-is : p .step ≡ rowStep (rowLost (s .k) (lostIn p))
   pub pivot-below : (v : ℕ) → v < p .count → p .pivot ≤ getD (p .lost .at) v 0
-  pub pivot-plain : s .r < runs s → p .pivot ≡ 0
+  pub pivot-plain : plainRuns s < runs s → p .pivot ≡ 0
   pub pivot-whole : (j : ℕ) → among (s .k + j) (lostIn p) ≡ true → p .pivot ≡ 0
   pub pivot-apart : (p .pivot ≡ 0) ⊎ ((s .t ≡ 0) × (p .pivot < s .k))

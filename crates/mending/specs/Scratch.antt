@@ -11,7 +11,7 @@ use Rattle.field.specs.Bytes.{Bytes}
 use Rattle.field.specs.Row.{row}
 use Rattle.stripe.specs.declared.Shape.{Shape}
 use Rattle.stripe.specs.Shape.{shapeRefusal, parityLength}
-use Rattle.stripe.specs.Stripe.{runs, runLength, parityByte, dataOf, among}
+use Rattle.stripe.specs.Stripe.{runs, runLength, parityByte, dataOf, among, plainRuns}
 use Rattle.stripe.proofs.Errors.{points}
 use Rattle.stripe.proofs.Word.{wordErrors}
 use Rattle.stripe.proofs.Mended.{dataAt, checkAt, wanted, wordAt}
@@ -66,10 +66,10 @@ pub record RunsSolved (s : Shape) (p : Plan) (ys zs : List ℕ) : Type 0 where
 -- in a run b from r on, to each row i below j is added row b of the errors at the same place of run i; all else stays
 pub record Carried (s : Shape) (p : Plan) (b j : ℕ) (ys zs : List ℕ) : Type 0 where
   pub long : length zs ≡ length ys
-  pub on : (i q : ℕ) → s .r ≤ b → i < j → q < runLength s
+  pub on : (i q : ℕ) → plainRuns s ≤ b → i < j → q < runLength s
       → rowByte s zs i (b * runLength s + q)
       ≡ rowByte s ys i (b * runLength s + q) ⊕ weighted (points b (gone s p)) (λ v. rowByte s ys (p .first + p .step * v) (i * runLength s + q))
-  pub off : (i y : ℕ) → i < s .r → y < s .l → (b < s .r) ⊎ ((j ≤ i) ⊎ Outside (b * runLength s) (runLength s) y) → rowByte s zs i y ≡ rowByte s ys i y
+  pub off : (i y : ℕ) → i < s .r → y < s .l → (b < plainRuns s) ⊎ ((j ≤ i) ⊎ Outside (b * runLength s) (runLength s) y) → rowByte s zs i y ≡ rowByte s ys i y
 
 -- the mended data have the row that is wanted, at each place in each row that survives
 abbrev pub Fine : Shape → List ℕ → List ℕ → ℕ → ℕ → Type 0

@@ -7,6 +7,7 @@ use lib.Dec.{leb, ltb, eqb}
 use lib.ListN.{getD}
 use Rattle.stripe.specs.declared.Shape.{Shape}
 use Rattle.stripe.specs.Shape.{shapeRefusal, mostData, mostRows, noShape}
+use Rattle.stripe.specs.Stripe.{plainRuns}
 use Rattle.plan.specs.declared.Kind.{Kind}
 use Rattle.plan.specs.declared.Kind.the-variants.{A, B, C}
 use Rattle.plan.specs.declared.Span.{Span}
@@ -39,7 +40,7 @@ columnSpans n first many c (suc m) =
 unfoldable pub kindSpans : Kind → Shape → ℕ → ℕ → List Span
 kindSpans A s f n = columnSpans n 0 (s .l) (s .k) f
 kindSpans B s f n =
-    columnSpans n (s .r * (s .l / s .t)) ((s .t - s .r) * (s .l / s .t)) 0 (s .k) ++ columnSpans n 0 (s .l) (s .k) (s .r)
+    columnSpans n (plainRuns s * (s .l / s .t)) ((s .t - plainRuns s) * (s .l / s .t)) 0 (s .k) ++ columnSpans n 0 (s .l) (s .k) (s .r)
 kindSpans C s f n = columnSpans n 0 (s .l) 0 (s .k)
 
 -- what the plan reads of m stripes, in order, the first of which is n
@@ -56,7 +57,7 @@ unfoldable pub columnSpan : Kind → Shape → ℕ → ℕ → Span
 columnSpan A s n i = record { stripe = n; position = s .k + i; first = 0; length = s .l }
 columnSpan B s n i =
     cond (ltb i (s .k))
-    (record { stripe = n; position = i; first = s .r * (s .l / s .t); length = (s .t - s .r) * (s .l / s .t) })
+    (record { stripe = n; position = i; first = plainRuns s * (s .l / s .t); length = (s .t - plainRuns s) * (s .l / s .t) })
     (record { stripe = n; position = i; first = 0; length = s .l })
 columnSpan C s n i = record { stripe = n; position = i; first = 0; length = s .l }
 

@@ -310,7 +310,8 @@ fn add_block(
     n: usize,
     run: &mut [u8],
 )
-    requires { ⌜ (length (now «data») ≡ k * l) × ((0 < k) × ((j < mostRows) × ((n ≤ 64) × ((from + n ≤ l) × (at + n ≤ length (now run)))))) ⌝ }
+    requires { ⌜ (length (now «data») ≡ k * l) × ((0 < k) × ((j < mostRows)
+        × ((n ≤ 64) × ((from + n ≤ l) × (at + n ≤ length (now run)))))) ⌝ }
     ensures { λ _. ⌜ Added (now («data» .entry)) k l j from at n (now (run .entry)) (now (run .exit)) ⌝ }
 {
     let b = row_block(data, k, l, j, from, n);

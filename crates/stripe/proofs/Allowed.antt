@@ -9,7 +9,8 @@ use lib.Dec.{leb, ltb, eqb}
 use borrow.Author.Tests.{ltb-true, leb-true, eqb-true, eq-eqb, ne-eqb}
 use Rattle.field.proofs.Cases.{and-left, and-right}
 use Rattle.stripe.specs.declared.Shape.{Shape}
-use Rattle.stripe.specs.Shape.{shapeRefusal, dataAllowed, parityAllowed, markAllowed, lengthAllowed, dataLength, parityLength, stripeLength, mostData, mostRows, mostParity, mostColumns, mostLength, mostParityLength}
+use Rattle.stripe.specs.Shape.{shapeRefusal, dataAllowed, parityAllowed, markAllowed, lengthAllowed, dataLength, parityLength, stripeLength}
+use Rattle.stripe.specs.Shape.{mostData, mostRows, mostParity, mostColumns, mostLength, mostParityLength}
 use Rattle.stripe.specs.Stripe.{runs, runLength}
 
 -- the marks that are allowed beside 0: more than r, at most `mostRows` and at most k

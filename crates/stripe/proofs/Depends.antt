@@ -9,7 +9,7 @@ use Rattle.field.specs.Field.{_⊕_}
 use Rattle.field.specs.Row.{row}
 use Rattle.field.proofs.Cases.{below-or-from}
 use Rattle.stripe.specs.declared.Shape.{Shape}
-use Rattle.stripe.specs.Stripe.{rowAt, runLength, piggyback, parityByte}
+use Rattle.stripe.specs.Stripe.{rowAt, runLength, piggyback, parityByte, plainRuns}
 use Rattle.stripe.proofs.Places.{across-agree, piggyback-none, piggyback-some}
 
 -- two lists of data agree at place p of every data column
@@ -21,14 +21,14 @@ unfolding rowAt
 row-depends s xs ys j p h = ap (row j) (across-agree xs ys (s .l) p (s .k) h)
 
 pub piggyback-depends : (s : Shape) (xs ys : List ℕ) (i p : ℕ)
-    → (s .r ≤ p / runLength s → AgreeAt s (i * runLength s + p % runLength s) xs ys) → piggyback s xs i p ≡ piggyback s ys i p
-piggyback-depends s xs ys i p h = go (below-or-from (p / runLength s) (s .r))
+    → (plainRuns s ≤ p / runLength s → AgreeAt s (i * runLength s + p % runLength s) xs ys) → piggyback s xs i p ≡ piggyback s ys i p
+piggyback-depends s xs ys i p h = go (below-or-from (p / runLength s) (plainRuns s))
   where
-    go : (p / runLength s < s .r) ⊎ (s .r ≤ p / runLength s) → piggyback s xs i p ≡ piggyback s ys i p
+    go : (p / runLength s < plainRuns s) ⊎ (plainRuns s ≤ p / runLength s) → piggyback s xs i p ≡ piggyback s ys i p
     go (inl l) = piggyback-none s xs i p l ∙ sym (piggyback-none s ys i p l)
     go (inr m) = piggyback-some s xs i p m ∙ row-depends s xs ys _ _ (h m) ∙ sym (piggyback-some s ys i p m)
 
 pub parity-depends : (s : Shape) (xs ys : List ℕ) (i p : ℕ) → AgreeAt s p xs ys
-    → (s .r ≤ p / runLength s → AgreeAt s (i * runLength s + p % runLength s) xs ys) → parityByte s xs i p ≡ parityByte s ys i p
+    → (plainRuns s ≤ p / runLength s → AgreeAt s (i * runLength s + p % runLength s) xs ys) → parityByte s xs i p ≡ parityByte s ys i p
 unfolding parityByte
 parity-depends s xs ys i p h g = ap₂ _⊕_ (row-depends s xs ys i p h) (piggyback-depends s xs ys i p g)

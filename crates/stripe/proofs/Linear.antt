@@ -13,7 +13,7 @@ use Rattle.field.proofs.Bytes.{add-length, add-at, add-bytes}
 use Rattle.field.proofs.Rows.{row-add}
 use Rattle.stripe.specs.declared.Shape.{Shape}
 use Rattle.stripe.specs.Shape.{dataLength, parityLength}
-use Rattle.stripe.specs.Stripe.{rowAt, runLength, piggyback, parityByte, parity, dataOf, Codeword}
+use Rattle.stripe.specs.Stripe.{rowAt, runLength, piggyback, parityByte, parity, dataOf, Codeword, plainRuns}
 use Rattle.stripe.proofs.Places.{across-length, across-add, parity-at, parity-length, parity-exact, checks-codeword, codeword-checks, data-of-length}
 
 pub row-at-add : (s : Shape) (xs ys : List ℕ) (j p : ℕ) → length xs ≡ length ys → rowAt s (xs ⊞ ys) j p ≡ rowAt s xs j p ⊕ rowAt s ys j p
@@ -25,7 +25,7 @@ row-at-add s xs ys j p e =
 pub piggyback-add : (s : Shape) (xs ys : List ℕ) (i p : ℕ) → length xs ≡ length ys
     → piggyback s (xs ⊞ ys) i p ≡ piggyback s xs i p ⊕ piggyback s ys i p
 unfolding piggyback
-piggyback-add s xs ys i p e = go (ltb (p / runLength s) (s .r))
+piggyback-add s xs ys i p e = go (ltb (p / runLength s) (plainRuns s))
   where
     j : ℕ
     j = p / runLength s

@@ -20,7 +20,7 @@ use Rattle.field.proofs.Rows.{row-lt}
 use Rattle.field.proofs.Cases.{below-or-from}
 use Rattle.stripe.specs.declared.Shape.{Shape}
 use Rattle.stripe.specs.Shape.{columns, dataLength}
-use Rattle.stripe.specs.Stripe.{across, rowAt, runLength, parityByte, parity, dataOf, Codeword, among, Ascending, Agree}
+use Rattle.stripe.specs.Stripe.{across, rowAt, runLength, parityByte, parity, dataOf, Codeword, among, Ascending, Agree, plainRuns}
 use Rattle.stripe.proofs.Allowed.{Allowed}
 use Rattle.stripe.proofs.Places.{place-lt, place-column, place-byte, by-places, across-length, across-first, across-bytes, parity-below, parity-from, row-at-stripe, codeword-checks, data-of-length, encoded-data, encoded-codeword, codeword-encoded, run-place-lt, run-place-run}
 use Rattle.stripe.proofs.Errors.{AgreeOff}
@@ -42,7 +42,7 @@ wordBelow s es xs p = wordMended (s .k) es (dataAt s xs p) (checkAt s xs p)
 -- what row j is to be at place p: the byte of parity column j, less the piggyback in a run from r on
 unfoldable pub wanted : Shape → List ℕ → List ℕ → ℕ → ℕ → ℕ
 wanted s es xs p j =
-    cond (ltb (p / runLength s) (s .r)) (checkAt s xs p j)
+    cond (ltb (p / runLength s) (plainRuns s)) (checkAt s xs p j)
     (checkAt s xs p j ⊕ row (p / runLength s) (wordBelow s es xs (j * runLength s + p % runLength s)))
 
 -- the data bytes at place p
@@ -57,20 +57,20 @@ stripeMended s es xs = dataMended s es xs ++ parity s (dataMended s es xs)
 
 -- ---- what they are by runs
 
-pub wanted-below : (s : Shape) (es xs : List ℕ) (p j : ℕ) → p / runLength s < s .r → wanted s es xs p j ≡ checkAt s xs p j
+pub wanted-below : (s : Shape) (es xs : List ℕ) (p j : ℕ) → p / runLength s < plainRuns s → wanted s es xs p j ≡ checkAt s xs p j
 unfolding wanted
 wanted-below s es xs p j h =
     ap (λ (b : Bool). cond b (checkAt s xs p j) (checkAt s xs p j ⊕ row (p / runLength s) (wordBelow s es xs (j * runLength s + p % runLength s))))
     (lt-ltb _ _ h)
 
-pub wanted-from : (s : Shape) (es xs : List ℕ) (p j : ℕ) → s .r ≤ p / runLength s
+pub wanted-from : (s : Shape) (es xs : List ℕ) (p j : ℕ) → plainRuns s ≤ p / runLength s
     → wanted s es xs p j ≡ checkAt s xs p j ⊕ row (p / runLength s) (wordBelow s es xs (j * runLength s + p % runLength s))
 unfolding wanted
 wanted-from s es xs p j h =
     ap (λ (b : Bool). cond b (checkAt s xs p j) (checkAt s xs p j ⊕ row (p / runLength s) (wordBelow s es xs (j * runLength s + p % runLength s))))
     (le-ltb _ _ h)
 
-pub word-below : (s : Shape) (es xs : List ℕ) (p : ℕ) → p / runLength s < s .r → wordAt s es xs p ≡ wordBelow s es xs p
+pub word-below : (s : Shape) (es xs : List ℕ) (p : ℕ) → p / runLength s < plainRuns s → wordAt s es xs p ≡ wordBelow s es xs p
 unfolding wordAt wordBelow wanted
 word-below s es xs p h =
     ap
@@ -83,9 +83,9 @@ unfolding wordAt
 word-length s es xs p = word-mended-length (s .k) es (dataAt s xs p) (wanted s es xs p) ∙ across-length xs (s .l) p 0 (s .k)
 
 pub wanted-lt : (s : Shape) (es xs : List ℕ) (p j : ℕ) → Bytes xs → wanted s es xs p j < 256
-wanted-lt s es xs p j b = go (below-or-from (p / runLength s) (s .r))
+wanted-lt s es xs p j b = go (below-or-from (p / runLength s) (plainRuns s))
   where
-    go : (p / runLength s < s .r) ⊎ (s .r ≤ p / runLength s) → wanted s es xs p j < 256
+    go : (p / runLength s < plainRuns s) ⊎ (plainRuns s ≤ p / runLength s) → wanted s es xs p j < 256
     go (inl h) = subst (λ (z : ℕ). z < 256) (sym (wanted-below s es xs p j h)) (b _)
     go (inr h) = subst (λ (z : ℕ). z < 256) (sym (wanted-from s es xs p j h)) (add-lt 8 _ _ (b _) (row-lt (p / runLength s) _))
 
@@ -123,25 +123,25 @@ add-right x y z e = undo ∙ ap (λ (w : ℕ). w ⊕ z) e
     undo = simp sums
 
 -- its parity byte, in a run below r and in the others
-pub mended-parity-below : (s : Shape) (es xs : List ℕ) (i p : ℕ) → p < s .l → p / runLength s < s .r
+pub mended-parity-below : (s : Shape) (es xs : List ℕ) (i p : ℕ) → p < s .l → p / runLength s < plainRuns s
     → parityByte s (dataMended s es xs) i p ≡ row i (wordAt s es xs p)
 mended-parity-below s es xs i p hp h = parity-below s (dataMended s es xs) i p h ∙ mended-row-at s es xs i p hp
 
-pub mended-parity-from : (s : Shape) (es xs : List ℕ) (i p : ℕ) → Allowed s → i < s .r → p < s .l → s .r ≤ p / runLength s
+pub mended-parity-from : (s : Shape) (es xs : List ℕ) (i p : ℕ) → Allowed s → i < s .r → p < s .l → plainRuns s ≤ p / runLength s
     → parityByte s (dataMended s es xs) i p
     ≡ row i (wordAt s es xs p) ⊕ row (p / runLength s) (wordBelow s es xs (i * runLength s + p % runLength s))
 mended-parity-from s es xs i p a hi hp h =
     parity-from s (dataMended s es xs) i p h
     ∙ ap₂ _⊕_ (mended-row-at s es xs i p hp)
     (mended-row-at s es xs (p / runLength s) (i * runLength s + p % runLength s) (run-place-lt s i p a hi hp h)
-    ∙ ap (row (p / runLength s)) (word-below s es xs _ (subst (λ (z : ℕ). z < s .r) (sym (run-place-run s i p a)) hi)))
+    ∙ ap (row (p / runLength s)) (word-below s es xs _ (subst (λ (z : ℕ). z < plainRuns s) (sym (run-place-run s i p a)) hi)))
 
 -- it is the one that the stripe has exactly when the row is the one wanted
 pub parity-wanted : (s : Shape) (es xs : List ℕ) (i p : ℕ) → Allowed s → i < s .r → p < s .l
     → (row i (wordAt s es xs p) ≡ wanted s es xs p i) ↔ (parityByte s (dataMended s es xs) i p ≡ checkAt s xs p i)
-parity-wanted s es xs i p a hi hp = go (below-or-from (p / runLength s) (s .r))
+parity-wanted s es xs i p a hi hp = go (below-or-from (p / runLength s) (plainRuns s))
   where
-    go : (p / runLength s < s .r) ⊎ (s .r ≤ p / runLength s)
+    go : (p / runLength s < plainRuns s) ⊎ (plainRuns s ≤ p / runLength s)
         → (row i (wordAt s es xs p) ≡ wanted s es xs p i) ↔ (parityByte s (dataMended s es xs) i p ≡ checkAt s xs p i)
     go (inl h) = (
       λ e. mended-parity-below s es xs i p hp h ∙ e ∙ wanted-below s es xs p i h,
@@ -229,7 +229,7 @@ module _ (s : Shape) (a : Allowed s) (es : List ℕ) (asc : Ascending 0 (columns
         (same-data p hp) rows
 
     -- in a run below r
-    only-below : (p : ℕ) → p < s .l → p / runLength s < s .r → dataAt s ys p ≡ wordBelow s es xs p
+    only-below : (p : ℕ) → p < s .l → p / runLength s < plainRuns s → dataAt s ys p ≡ wordBelow s es xs p
     unfolding wordBelow
     only-below p hp h =
         only-word (checkAt s xs p) p hp
@@ -238,9 +238,9 @@ module _ (s : Shape) (a : Allowed s) (es : List ℕ) (asc : Ascending 0 (columns
     -- in any run
     only-at : (p : ℕ) → p < s .l → dataAt s ys p ≡ wordAt s es xs p
     unfolding wordAt
-    only-at p hp = only-word (wanted s es xs p) p hp (λ j hj n. go j hj n (below-or-from (p / runLength s) (s .r)))
+    only-at p hp = only-word (wanted s es xs p) p hp (λ j hj n. go j hj n (below-or-from (p / runLength s) (plainRuns s)))
       where
-        go : (j : ℕ) → j < s .r → among (s .k + j) es ≡ false → (p / runLength s < s .r) ⊎ (s .r ≤ p / runLength s)
+        go : (j : ℕ) → j < s .r → among (s .k + j) es ≡ false → (p / runLength s < plainRuns s) ⊎ (plainRuns s ≤ p / runLength s)
             → row j (dataAt s ys p) ≡ wanted s es xs p j
         go j hj n (inl h) =
             sym (row-at-stripe s ys j p hp) ∙ sym (parity-below s (dataOf s ys) j p h) ∙ sym (same-check p j hp hj n)
@@ -256,7 +256,7 @@ module _ (s : Shape) (a : Allowed s) (es : List ℕ) (asc : Ascending 0 (columns
             from =
                 row-at-stripe s ys (p / runLength s) q (run-place-lt s j p a hj hp h)
                 ∙ ap (row (p / runLength s))
-                (only-below q (run-place-lt s j p a hj hp h) (subst (λ (z : ℕ). z < s .r) (sym (run-place-run s j p a)) hj))
+                (only-below q (run-place-lt s j p a hj hp h) (subst (λ (z : ℕ). z < plainRuns s) (sym (run-place-run s j p a)) hj))
 
     only-data : dataOf s ys ≡ dataMended s es xs
     only-data =

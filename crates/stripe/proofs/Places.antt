@@ -18,7 +18,7 @@ use Rattle.field.proofs.Bytes.{tabulate-length, tabulate-at, tabulate-bytes, ad
 use Rattle.field.proofs.Rows.{row-lt}
 use Rattle.stripe.specs.declared.Shape.{Shape}
 use Rattle.stripe.specs.Shape.{dataLength, parityLength, stripeLength}
-use Rattle.stripe.specs.Stripe.{across, rowAt, runs, runLength, piggyback, parityByte, parity, dataOf, parityOf, Codeword}
+use Rattle.stripe.specs.Stripe.{across, rowAt, runs, runLength, piggyback, parityByte, parity, dataOf, parityOf, Codeword, plainRuns}
 use Rattle.stripe.proofs.Allowed.{Allowed, plain-run-length}
 
 -- ---- the numbers of places
@@ -108,12 +108,12 @@ unfolding rowAt
 row-at-lt s ds j p = row-lt j (across ds (s .l) p 0 (s .k))
 
 -- no piggyback in a run below r
-pub piggyback-none : (s : Shape) (ds : List ℕ) (i p : ℕ) → p / runLength s < s .r → piggyback s ds i p ≡ 0
+pub piggyback-none : (s : Shape) (ds : List ℕ) (i p : ℕ) → p / runLength s < plainRuns s → piggyback s ds i p ≡ 0
 unfolding piggyback
 piggyback-none s ds i p h =
     ap (λ (b : Bool). cond b 0 (rowAt s ds (p / runLength s) (i * runLength s + p % runLength s))) (lt-ltb _ _ h)
 
-pub piggyback-some : (s : Shape) (ds : List ℕ) (i p : ℕ) → s .r ≤ p / runLength s
+pub piggyback-some : (s : Shape) (ds : List ℕ) (i p : ℕ) → plainRuns s ≤ p / runLength s
     → piggyback s ds i p ≡ rowAt s ds (p / runLength s) (i * runLength s + p % runLength s)
 unfolding piggyback
 piggyback-some s ds i p h =
@@ -121,26 +121,26 @@ piggyback-some s ds i p h =
 
 pub piggyback-lt : (s : Shape) (ds : List ℕ) (i p : ℕ) → piggyback s ds i p < 256
 unfolding piggyback
-piggyback-lt s ds i p = go (ltb (p / runLength s) (s .r))
+piggyback-lt s ds i p = go (ltb (p / runLength s) (plainRuns s))
   where
     go : (b : Bool) → cond b 0 (rowAt s ds (p / runLength s) (i * runLength s + p % runLength s)) < 256
     go true = lit< tt
     go false = row-at-lt s ds (p / runLength s) (i * runLength s + p % runLength s)
 
 -- parity in a run below r
-pub parity-below : (s : Shape) (ds : List ℕ) (i p : ℕ) → p / runLength s < s .r → parityByte s ds i p ≡ rowAt s ds i p
+pub parity-below : (s : Shape) (ds : List ℕ) (i p : ℕ) → p / runLength s < plainRuns s → parityByte s ds i p ≡ rowAt s ds i p
 unfolding parityByte
 parity-below s ds i p h = ap (λ (x : ℕ). rowAt s ds i p ⊕ x) (piggyback-none s ds i p h) ∙ add-zero _
 
 -- parity in a run from r on
-pub parity-from : (s : Shape) (ds : List ℕ) (i p : ℕ) → s .r ≤ p / runLength s
+pub parity-from : (s : Shape) (ds : List ℕ) (i p : ℕ) → plainRuns s ≤ p / runLength s
     → parityByte s ds i p ≡ rowAt s ds i p ⊕ rowAt s ds (p / runLength s) (i * runLength s + p % runLength s)
 unfolding parityByte
 parity-from s ds i p h = ap (λ (x : ℕ). rowAt s ds i p ⊕ x) (piggyback-some s ds i p h)
 
 -- parity of a plain stripe
 pub plain-parity : (s : Shape) (ds : List ℕ) (i p : ℕ) → Allowed s → s .t ≡ 0 → p < s .l → parityByte s ds i p ≡ rowAt s ds i p
-plain-parity s ds i p a e h = parity-below s ds i p (subst (λ (z : ℕ). z < s .r) (sym first) (a .parity-some))
+plain-parity s ds i p a e h = parity-below s ds i p (subst (λ (z : ℕ). z < plainRuns s) (sym first) (a .parity-some))
   where
     first : p / runLength s ≡ 0
     first = ap (λ (z : ℕ). p / z) (plain-run-length s e) ∙ div-eq-of-lt h
@@ -225,7 +225,7 @@ codeword-encoded s xs w =
 -- ---- the places that a piggyback is taken from
 
 -- place p of a run from r on has its like in run i, for each i below r
-pub run-place-lt : (s : Shape) (i p : ℕ) → Allowed s → i < s .r → p < s .l → s .r ≤ p / runLength s → i * runLength s + p % runLength s < s .l
+pub run-place-lt : (s : Shape) (i p : ℕ) → Allowed s → i < s .r → p < s .l → plainRuns s ≤ p / runLength s → i * runLength s + p % runLength s < s .l
 run-place-lt s i p a hi hp hr =
     subst (λ (z : ℕ). i * runLength s + p % runLength s < z) (a .cut)
     (place-lt {n = runs s}

@@ -29,10 +29,14 @@ runs s = cond (eqb (s .t) 0) 1 (s .t)
 unfoldable pub runLength : Shape → ℕ
 runLength s = s .l / runs s
 
+-- how many runs, the first ones, have no piggyback
+abbrev pub plainRuns : Shape → ℕ
+plainRuns s = s .r
+
 -- what parity column i holds at place p of run j beside row i: nothing if j < r; if j >= r, row j of run i, at the same place in the run
 unfoldable pub piggyback : Shape → List ℕ → ℕ → ℕ → ℕ
 piggyback s ds i p =
-    cond (ltb (p / runLength s) (s .r)) 0 (rowAt s ds (p / runLength s) (i * runLength s + p % runLength s))
+    cond (ltb (p / runLength s) (plainRuns s)) 0 (rowAt s ds (p / runLength s) (i * runLength s + p % runLength s))
 
 -- the byte of parity column i at place p
 unfoldable pub parityByte : Shape → List ℕ → ℕ → ℕ → ℕ

@@ -14,7 +14,8 @@ use Rattle.field.specs.Bytes.{tabulate}
 
 abbrev Inv-loop : tie.InvT-loop
 Inv-loop list at₀ count i₀ at i =
-    (i ≤ capacity) × ((count ≡ length list / 2) × ((length at ≡ capacity) × (((j : ℕ) → j < i → getD at j 0 ≡ getD (positions list) j 0) × ((j : ℕ) → i ≤ j → getD at j 0 ≡ 0))))
+    (i ≤ capacity) × ((count ≡ length list / 2) × ((length at ≡ capacity)
+    × (((j : ℕ) → j < i → getD at j 0 ≡ getD (positions list) j 0) × ((j : ℕ) → i ≤ j → getD at j 0 ≡ 0))))
 
 abbrev μ-loop : tie.MeasureT-loop
 μ-loop list at₀ count i₀ at i = capacity - i

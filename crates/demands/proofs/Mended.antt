@@ -1,20 +1,21 @@
 -- A record mended, by document 01's tables: of a record that reads well the shape, the length and the list are in order, so that mending refuses
 -- 7 or 8 alone. And what such a record describes, in the words of its layout.
-use Prim.Native.Nat.{ℕ, suc, _+_, _*_, _/_, _%_, _<_, _≤_}
+use Prim.Native.Nat.{ℕ, _+_, _*_, _/_, _%_, _<_, _≤_}
 use mathlib.Core.Path.{_≡_, sym, ap, _∙_, subst}
 use mathlib.Core.Bool.{true}
 use mathlib.Core.Logic.{_⊎_, inl, inr}
-use mathlib.Core.List.{List, [], _∷_}
+use mathlib.Core.List.{List}
 use native.Mathlib.Omega.{arith}
 use borrow.Author.Tests.{eq-eqb}
 use lib.ListN.{length, getD, take, drop}
 use lib.Seq.{length-take-le, getD-take}
 use Rattle.stripe.specs.declared.Shape.{Shape}
 use Rattle.stripe.specs.Shape.{columns, stripeLength}
-use Rattle.stripe.specs.Stripe.{Ascending, Agree}
+use Rattle.stripe.specs.Stripe.{ascending, Agree}
 use Rattle.stripe.proofs.Places.{place-lt}
-use Rattle.lost.specs.Positions.{positions, ascending, listRefusal}
-use Rattle.lost.proofs.Listed.{ascending-nil, ascending-next, too-many, list-passes}
+use Rattle.stripe.proofs.Ascending.{ascending-so}
+use Rattle.lost.specs.Positions.{positions, listRefusal}
+use Rattle.lost.proofs.Listed.{too-many, list-passes}
 use Rattle.mending.specs.Mend.{mendRefusal, Restored, Mended}
 use Rattle.writing.specs.Writing.{LaidOut}
 use Rattle.number.specs.Number.{nextOf}
@@ -29,11 +30,6 @@ use Rattle.answer.proofs.Pairs.{pairs-length, positions-pairs}
 use Rattle.answer.proofs.Reading.{blank-long, read-says, read-shaped}
 use Rattle.demands.specs.Calls.{readTable, RecordJudged}
 use Rattle.demands.proofs.Tables.{read-table}
-
-ascending-so : (a n : ℕ) (es : List ℕ) → Ascending a n es → ascending a n es ≡ true
-unfolding Ascending
-ascending-so a n [] h = ascending-nil a n
-ascending-so a n (e ∷ es) h = ascending-next a n e es (h .0) (h .1) ∙ ascending-so (suc e) n es (h .2)
 
 -- ---- a record that reads well
 

@@ -8,8 +8,9 @@ use lib.Dec.{eqb, eqb·suc-zero, leb, ltb}
 use lib.ListN.{length}
 use Rattle.stripe.specs.declared.Shape.{Shape}
 use Rattle.stripe.specs.Shape.{shapeRefusal, lengthAllowed, columns, dataLength, parityLength, stripeLength}
+use Rattle.stripe.specs.Stripe.{ascending}
 use Rattle.stripe.specs.Column.{lentRefusal}
-use Rattle.lost.specs.Positions.{positions, ascending, listRefusal}
+use Rattle.lost.specs.Positions.{positions, listRefusal}
 use Rattle.mending.specs.Mend.{mendRefusal}
 use Rattle.plan.specs.Plan.{stripesAllowed, newAllowed, foldRefusal, columnsRead, bytesRead}
 use Rattle.fold.specs.Fold.{foldVerdict}
@@ -17,7 +18,7 @@ use Rattle.number.specs.Number.{numberRefusal, nextOf}
 use Rattle.record.specs.Layout.{recordOf}
 use Rattle.record.specs.Reading.{shapeRead, firstOf, unless, firstNumber, secondNumber, thirdNumber, fourthNumber, countNumber, countOf, columnsStart}
 use Rattle.record.specs.Reading.{stripeRefusal, headRefusal, positionsRefusal, columnsRefusal, contentRefusal, readRefusal}
-use Rattle.writing.specs.Writing.{ascends, writeRefusal}
+use Rattle.writing.specs.Writing.{writeRefusal}
 use Rattle.shelf.specs.Shelf.{spansRefusal}
 use Rattle.demands.specs.Calls.{numbersAllowed, encodeTable, mendTable, planTable, foldTable, spansTable, writeTable, readTable}
 
@@ -135,7 +136,7 @@ module _ (s : Shape) where
   unfolding writeRefusal
   write-table xs es room =
       stripe-then (unless (eqb (length xs) (stripeLength s)) 5
-      ∷ unless (ascends 0 (columns s) es) 6
+      ∷ unless (ascending 0 (columns s) es) 6
       ∷ unless (leb (length (recordOf s es xs)) 65536) 5
       ∷ unless (leb (length (recordOf s es xs)) room) 5
       ∷ [])

@@ -10,9 +10,10 @@ use lib.ListN.{length}
 use Rattle.stripe.specs.declared.Shape.{Shape}
 use Rattle.stripe.specs.Shape.{dataAllowed, parityAllowed, markAllowed, lengthAllowed, noShape}
 use Rattle.stripe.specs.Shape.{columns, dataLength, parityLength, stripeLength}
+use Rattle.stripe.specs.Stripe.{ascending}
 use Rattle.stripe.specs.Column.{columnOf}
 use Rattle.coding.specs.Encode.{encodeRefusal, encoded}
-use Rattle.lost.specs.Positions.{positions, ascending}
+use Rattle.lost.specs.Positions.{positions}
 use Rattle.mending.specs.Mend.{Restored, Mended}
 use Rattle.plan.specs.declared.Span.{Span}
 use Rattle.plan.specs.Plan.{stripesAllowed, newAllowed, foldRefusal, plan, spanAt, columnsRead, bytesRead}
@@ -23,7 +24,7 @@ use Rattle.number.specs.Number.{numberRefusal, nextOf}
 use Rattle.record.specs.Layout.{recordOf}
 use Rattle.record.specs.Reading.{shapeRead, firstOf, unless, firstNumber, secondNumber, thirdNumber, fourthNumber, countNumber}
 use Rattle.record.specs.Reading.{countOf, lostListed, columnsStart, positionsRefusal, columnsRefusal, gotOf, stripeRead, lostRead}
-use Rattle.writing.specs.Writing.{ascends, writtenOf, outWritten}
+use Rattle.writing.specs.Writing.{writtenOf, outWritten}
 use Rattle.answer.specs.declared.mended.Answer.{Answer}
 use Rattle.answer.specs.Answer.{described, Answered, Printed}
 use Rattle.text.specs.Text.{stripeText, refusalText}
@@ -128,7 +129,7 @@ writeTable s xs es room =
     ∷ unless (lengthAllowed (s .t) (s .l)) 2
     ∷ unless (leb (stripeLength s) 65536) 5
     ∷ unless (eqb (length xs) (stripeLength s)) 5
-    ∷ unless (ascends 0 (columns s) es) 6
+    ∷ unless (ascending 0 (columns s) es) 6
     ∷ unless (leb (length (recordOf s es xs)) 65536) 5
     ∷ unless (leb (length (recordOf s es xs)) room) 5
     ∷ []

@@ -1,22 +1,22 @@
 -- The lent list: its positions by pairs of bytes, and what is known of them where it is not refused.
 use Prim.Native.Nat.{ℕ, zero, suc, _+_, _*_, _/_, _%_, _-_, _≤_, _<_}
 use mathlib.Core.Path.{_≡_, refl, sym, ap, ap₂, _∙_, subst}
-use mathlib.Core.Bool.{Bool, true, false, cond, _&&_}
+use mathlib.Core.Bool.{Bool, true, false, cond}
 use mathlib.Core.Logic.{_⊎_, inl, inr}
 use mathlib.Core.List.{List, [], _∷_}
 use native.Mathlib.Omega.{arith}
 use native.Mathlib.Numerals.{add-one}
-use lib.Dec.{leb, ltb}
 use lib.ListN.{length, getD, set, drop, length-drop, List·getD-eq-default}
 use lib.Seq.{getD-set-same, getD-set-other, ext-getD}
-use borrow.Author.Tests.{le-leb, lt-leb, lt-ltb, le-ltb, leb-true, ltb-true, eq-eqb, ne-eqb, eqb-true}
+use borrow.Author.Tests.{le-leb, lt-leb, leb-true, eq-eqb, ne-eqb, eqb-true}
 use borrow.Author.Count.{below-more}
-use Rattle.field.proofs.Cases.{below-or-from, and-left, and-right}
+use Rattle.field.proofs.Cases.{below-or-from}
 use Rattle.field.proofs.Bytes.{tabulate-length, tabulate-at}
 use Rattle.field.specs.Bytes.{tabulate}
-use Rattle.stripe.specs.Stripe.{Ascending}
+use Rattle.stripe.specs.Stripe.{Ascending, ascending}
+use Rattle.stripe.proofs.Ascending.{ascending-nil, ascending-low, ascending-high, ascending-next, ascending-says}
 use Rattle.lost.specs.declared.Lost.{Lost}
-use Rattle.lost.specs.Positions.{positions, ascending, listRefusal}
+use Rattle.lost.specs.Positions.{positions, listRefusal}
 use Rattle.lost.specs.Lost.{lostOf, capacity}
 
 -- ---- positions by pairs
@@ -53,24 +53,6 @@ unfolding positions
 positions-short [] h = refl
 positions-short (a ∷ []) h = refl
 positions-short (a ∷ b ∷ ls) h = absurd (omega arith)
-
-pub ascending-nil : (a n : ℕ) → ascending a n [] ≡ true
-unfolding ascending
-ascending-nil a n = refl
-
-pub ascending-low : (a n e : ℕ) (es : List ℕ) → e < a → ascending a n (e ∷ es) ≡ false
-unfolding ascending
-ascending-low a n e es h = ap (λ (b : Bool). b && ltb e n && ascending (suc e) n es) (lt-leb a e h)
-
-pub ascending-high : (a n e : ℕ) (es : List ℕ) → a ≤ e → n ≤ e → ascending a n (e ∷ es) ≡ false
-unfolding ascending
-ascending-high a n e es h m =
-    ap₂ (λ (b d : Bool). b && d && ascending (suc e) n es) (le-leb a e h) (le-ltb e n m)
-
-pub ascending-next : (a n e : ℕ) (es : List ℕ) → a ≤ e → e < n → ascending a n (e ∷ es) ≡ ascending (suc e) n es
-unfolding ascending
-ascending-next a n e es h m =
-    ap₂ (λ (b d : Bool). b && d && ascending (suc e) n es) (le-leb a e h) (lt-ltb e n m)
 
 first-pair : (ls : List ℕ) (i : ℕ) → suc i < length ls
     → positions (drop i ls) ≡ (getD ls i 0 + getD ls (suc i) 0 * 256) ∷ positions (drop (suc (suc i)) ls)
@@ -168,15 +150,6 @@ zeros (suc n) (suc j) = zeros n j
 
 -- ---- a list that passes
 
-pub ascends : (a n : ℕ) (es : List ℕ) → ascending a n es ≡ true → Ascending a n es
-unfolding ascending Ascending
-ascends a n [] h = tt
-ascends a n (e ∷ es) h = (
-  leb-true _ _ (and-left _ _ (and-left _ _ h)),
-  ltb-true _ _ (and-right (leb a e) _ (and-left _ _ h)),
-  ascends (suc e) n es (and-right (leb a e && ltb e n) _ h),
-)
-
 -- at most r positions that ascend below n
 pub record Listed (n r : ℕ) (ls : List ℕ) : Type 0 where
   pub even : length ls % 2 ≡ 0
@@ -193,4 +166,4 @@ pub listed : (n r : ℕ) (ls : List ℕ) → listRefusal n r ls ≡ 0 → Listed
 unfolding listRefusal
 listed n r ls e =
     let u = list-tests _ _ _ e in
-    record { even = eqb-true _ _ (u .0); ascend = ascends 0 n (positions ls) (u .1 .0); few = leb-true _ _ (u .1 .1) }
+    record { even = eqb-true _ _ (u .0); ascend = ascending-says 0 n (positions ls) (u .1 .0); few = leb-true _ _ (u .1 .1) }

@@ -1,20 +1,16 @@
 -- The list of lost positions as it is lent (document 01, 'Mending'), and what is refused of it.
-use Prim.Native.Nat.{ℕ, suc, _+_, _*_, _%_}
-use mathlib.Core.Bool.{Bool, true, cond, _&&_}
+use Prim.Native.Nat.{ℕ, _+_, _*_, _%_}
+use mathlib.Core.Bool.{cond}
 use mathlib.Core.List.{List, [], _∷_}
-use lib.Dec.{leb, ltb, eqb}
+use lib.Dec.{leb, eqb}
 use lib.ListN.{length}
+use Rattle.stripe.specs.Stripe.{ascending}
 
 -- the positions that pairs of bytes name, low byte first
 unfoldable pub positions : List ℕ → List ℕ
 positions [] = []
 positions (a ∷ []) = []
 positions (a ∷ b ∷ ls) = (a + b * 256) ∷ positions ls
-
--- whether positions are strictly ascending, each at least a and below n
-unfoldable pub ascending : ℕ → ℕ → List ℕ → Bool
-ascending a n [] = true
-ascending a n (e ∷ es) = leb a e && ltb e n && ascending (suc e) n es
 
 -- the refusal of a lent list: 5 for an odd length, 6 for positions that do not ascend below n, 7 for more than r of them, 0 for none
 unfoldable pub listRefusal : ℕ → ℕ → List ℕ → ℕ

@@ -2,7 +2,8 @@
 use stripe::MOST_PARITY;
 ghost use mathlib.Core.Path.{_≡_};
 ghost use Prim.Native.Nat.{_+_, _*_, _<_};
-ghost use Rattle.lost.specs.Positions.{positions, ascending, listRefusal};
+ghost use Rattle.stripe.specs.Stripe.{ascending};
+ghost use Rattle.lost.specs.Positions.{positions, listRefusal};
 ghost use Rattle.lost.specs.Lost.{lostOf};
 
 // The most lost positions that a record holds.

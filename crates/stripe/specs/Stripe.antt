@@ -2,9 +2,9 @@
 -- order, the data columns first: byte place p of the column at position c stands at c * L + p.
 use Prim.Native.Nat.{ℕ, zero, suc, _+_, _*_, _/_, _%_, _<_, _≤_}
 use mathlib.Core.Path.{_≡_}
-use mathlib.Core.Bool.{Bool, false, cond, _||_}
+use mathlib.Core.Bool.{Bool, true, false, cond, _&&_, _||_}
 use mathlib.Core.List.{List, [], _∷_}
-use lib.Dec.{ltb, eqb}
+use lib.Dec.{leb, ltb, eqb}
 use lib.ListN.{length, getD, take, drop}
 use Rattle.field.specs.Field.{_⊕_}
 use Rattle.field.specs.Bytes.{Bytes, tabulate}
@@ -68,6 +68,11 @@ among c (e ∷ es) = eqb c e || among c es
 unfoldable pub Ascending : ℕ → ℕ → List ℕ → Type 0
 Ascending a n [] = Unit {0}
 Ascending a n (e ∷ es) = (a ≤ e) × (e < n) × Ascending (suc e) n es
+
+-- whether they are
+unfoldable pub ascending : ℕ → ℕ → List ℕ → Bool
+ascending a n [] = true
+ascending a n (e ∷ es) = leb a e && ltb e n && ascending (suc e) n es
 
 -- two stripes hold the same bytes in every column that does not stand in the list
 abbrev pub Agree : Shape → List ℕ → List ℕ → List ℕ → Type 0

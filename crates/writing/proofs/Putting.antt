@@ -1,25 +1,26 @@
 -- Writing a record: its length, its positions one at a time, and its refusals in their order.
 use Prim.Native.Nat.{ℕ, zero, suc, _+_, _-_, _*_, _≤_, _<_}
 use mathlib.Core.Path.{_≡_, refl, sym, ap, ap₂, _∙_}
-use mathlib.Core.Bool.{Bool, true, false, cond, _&&_, and-eq-true-iff}
+use mathlib.Core.Bool.{Bool, true, false, cond}
 use mathlib.Core.List.{List, [], _∷_, _++_}
 use mathlib.Core.Logic.{⊎-elim}
 use native.Mathlib.Nat.{suc-mul, add-mul, zero-add}
 use native.Mathlib.Numerals.{add-one}
 use native.Mathlib.Omega.{arith}
-use lib.Dec.{leb, ltb, eqb}
+use lib.Dec.{leb, eqb}
 use lib.ListN.{length, getD, take, drop, length-append, length-drop, drop-of-length-le}
 use lib.Seq.{sets, length-take-le}
-use borrow.Author.Tests.{le-leb, lt-leb, lt-ltb, le-ltb, eq-eqb, ne-eqb, leb-true, ltb-true, eqb-true}
+use borrow.Author.Tests.{le-leb, lt-leb, eq-eqb, ne-eqb, leb-true, eqb-true}
 use Rattle.stripe.specs.declared.Shape.{Shape}
 use Rattle.stripe.specs.Shape.{columns, stripeLength, mostRows}
-use Rattle.stripe.specs.Stripe.{among, Ascending}
+use Rattle.stripe.specs.Stripe.{among, Ascending, ascending}
 use Rattle.stripe.proofs.Allowed.{Allowed}
+use Rattle.stripe.proofs.Ascending.{ascending-nil, ascending-low, ascending-high, ascending-next, ascending-says}
 use Rattle.writing.specs.declared.Written.{Written}
 use Rattle.number.specs.Number.{written}
 use Rattle.record.specs.Layout.{positionsWritten, survivors, kept, recordHead, recordOf}
 use Rattle.record.specs.Reading.{unless, stripeRefusal}
-use Rattle.writing.specs.Writing.{ascends, writeRefusal, writtenOf, outWritten}
+use Rattle.writing.specs.Writing.{writeRefusal, writtenOf, outWritten}
 use Rattle.number.proofs.Written.{drop-next, groups-most}
 use Rattle.field.proofs.Over.{sets-over}
 use Rattle.record.proofs.Survivors.{survivors-lost, survivors-kept}
@@ -30,35 +31,19 @@ use Rattle.writing.proofs.Surviving.{sets-append}
 -- ---- positions in order
 
 module _ (xs : List ℕ) (n least i : ℕ) (inside : i < length xs) where
-  ascends-here : ascends least n (drop i xs) ≡ (leb least (getD xs i 0) && ltb (getD xs i 0) n && ascends (suc (getD xs i 0)) n (drop (i + 1) xs))
-  unfolding ascends
-  ascends-here = ap (ascends least n) (drop-next xs i inside)
+  pub ascends-low : getD xs i 0 < least → ascending least n (drop i xs) ≡ false
+  ascends-low h = ap (ascending least n) (drop-next xs i inside) ∙ ascending-low least n _ _ h
 
-  pub ascends-low : getD xs i 0 < least → ascends least n (drop i xs) ≡ false
-  ascends-low h = ascends-here ∙ rw (lt-leb least (getD xs i 0) h)
+  pub ascends-high : least ≤ getD xs i 0 → n ≤ getD xs i 0 → ascending least n (drop i xs) ≡ false
+  ascends-high l h = ap (ascending least n) (drop-next xs i inside) ∙ ascending-high least n _ _ l h
 
-  pub ascends-high : least ≤ getD xs i 0 → n ≤ getD xs i 0 → ascends least n (drop i xs) ≡ false
-  ascends-high l h = ascends-here ∙ rw (le-leb least (getD xs i 0) l, le-ltb (getD xs i 0) n h)
+  pub ascends-turn : least ≤ getD xs i 0 → getD xs i 0 < n → ascending least n (drop i xs) ≡ ascending (getD xs i 0 + 1) n (drop (i + 1) xs)
+  ascends-turn l h =
+      ap (ascending least n) (drop-next xs i inside) ∙ ascending-next least n _ _ l h
+      ∙ ap (λ (a : ℕ). ascending a n (drop (i + 1) xs)) (sym (add-one (getD xs i 0)))
 
-  pub ascends-turn : least ≤ getD xs i 0 → getD xs i 0 < n → ascends least n (drop i xs) ≡ ascends (getD xs i 0 + 1) n (drop (i + 1) xs)
-  ascends-turn l h = ascends-here ∙ rw (le-leb least (getD xs i 0) l, lt-ltb (getD xs i 0) n h, add-one (getD xs i 0))
-
-pub ascends-done : (xs : List ℕ) (n least i : ℕ) → length xs ≤ i → ascends least n (drop i xs) ≡ true
-unfolding ascends
-ascends-done xs n least i h = ap (ascends least n) (drop-of-length-le xs h)
-
-pub ascends-ascending : (a n : ℕ) (es : List ℕ) → ascends a n es ≡ true → Ascending a n es
-unfolding ascends Ascending
-ascends-ascending a n [] e = tt
-ascends-ascending a n (x ∷ es) e =
-    let p = and-eq-true-iff (leb a x && ltb x n) _ .0 e in
-    let q = and-eq-true-iff (leb a x) _ .0 (p .0) in
-    (leb-true a x (q .0), ltb-true x n (q .1), ascends-ascending (suc x) n es (p .1))
-
-pub ascending-ascends : (a n : ℕ) (es : List ℕ) → Ascending a n es → ascends a n es ≡ true
-unfolding ascends Ascending
-ascending-ascends a n [] h = refl
-ascending-ascends a n (x ∷ es) h = rw (le-leb a x (h .0), lt-ltb x n (h .1)) (ascending-ascends (suc x) n es (h .2))
+pub ascends-done : (xs : List ℕ) (n least i : ℕ) → length xs ≤ i → ascending least n (drop i xs) ≡ true
+ascends-done xs n least i h = ap (ascending least n) (drop-of-length-le xs h) ∙ ascending-nil least n
 
 -- ---- positions written
 
@@ -190,12 +175,12 @@ module _ (s : Shape) (xs es : List ℕ) (room : ℕ) where
       two : unless (eqb (length xs) (stripeLength s)) 5 ≡ 0
       two = passed _ 5 (eq-eqb (length xs) (stripeLength s) exact)
 
-      pub write-order : ascends 0 (columns s) es ≡ false → _≡_ {A = ℕ} 6 (writeRefusal s xs es room)
+      pub write-order : ascending 0 (columns s) es ≡ false → _≡_ {A = ℕ} 6 (writeRefusal s xs es room)
       unfolding writeRefusal
       write-order h = stop 6 _ _ (failed _ 6 h) (λ z. omega arith) ∙ skip _ _ two ∙ skip _ _ one
 
-      module _ (ordered : ascends 0 (columns s) es ≡ true) where
-        three : unless (ascends 0 (columns s) es) 6 ≡ 0
+      module _ (ordered : ascending 0 (columns s) es ≡ true) where
+        three : unless (ascending 0 (columns s) es) 6 ≡ 0
         three = passed _ 6 ordered
 
         pub write-long : 65536 < length (recordOf s es xs) → _≡_ {A = ℕ} 5 (writeRefusal s xs es room)
@@ -230,13 +215,13 @@ unfolding writeRefusal
 writable s xs es room e =
     let a = first-zero (stripeRefusal s) _ e in
     let b = first-zero (unless (eqb (length xs) (stripeLength s)) 5) _ (a .1) in
-    let c = first-zero (unless (ascends 0 (columns s) es) 6) _ (b .1) in
+    let c = first-zero (unless (ascending 0 (columns s) es) 6) _ (b .1) in
     let d = first-zero (unless (leb (length (recordOf s es xs)) 65536) 5) _ (c .1) in
     let f = first-zero (unless (leb (length (recordOf s es xs)) room) 5) [] (d .1) in
     record {
       stripe-described = a .0;
       exact = eqb-true (length xs) (stripeLength s) (unless-zero _ 5 (omega arith) (b .0));
-      ascending = ascends-ascending 0 (columns s) es (unless-zero _ 6 (omega arith) (c .0));
+      ascending = ascending-says 0 (columns s) es (unless-zero _ 6 (omega arith) (c .0));
       short = leb-true _ _ (unless-zero _ 5 (omega arith) (d .0));
       fits = leb-true _ _ (unless-zero _ 5 (omega arith) (f .0));
     }

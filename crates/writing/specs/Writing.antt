@@ -1,29 +1,24 @@
 -- Writing a record (document 01, 'Stripe records' and 'Refusal numbers').
-use Prim.Native.Nat.{ℕ, suc, _≤_}
+use Prim.Native.Nat.{ℕ, _≤_}
 use mathlib.Core.Path.{_≡_}
-use mathlib.Core.Bool.{Bool, true, cond, _&&_}
+use mathlib.Core.Bool.{cond}
 use mathlib.Core.List.{List, [], _∷_}
-use lib.Dec.{leb, ltb, eqb}
+use lib.Dec.{leb, eqb}
 use lib.ListN.{length}
 use Rattle.stripe.specs.declared.Shape.{Shape}
 use Rattle.stripe.specs.Shape.{shapeRefusal, columns, stripeLength}
-use Rattle.stripe.specs.Stripe.{Ascending}
+use Rattle.stripe.specs.Stripe.{Ascending, ascending}
 use Rattle.writing.specs.declared.Written.{Written}
 use Rattle.field.specs.Bytes.{over}
 use Rattle.record.specs.Layout.{recordOf}
 use Rattle.record.specs.Reading.{firstOf, unless, stripeRefusal}
-
--- positions strictly ascending, each at least a and below n (so there are at most n of them)
-unfoldable pub ascends : ℕ → ℕ → List ℕ → Bool
-ascends a n [] = true
-ascends a n (e ∷ es) = leb a e && ltb e n && ascends (suc e) n es
 
 -- 1, 2; 5 for the stripe; 6; then 5 for the record's own length and the output, which depend on the list
 unfoldable pub writeRefusal : Shape → List ℕ → List ℕ → ℕ → ℕ
 writeRefusal s xs es room =
     firstOf (stripeRefusal s
     ∷ unless (eqb (length xs) (stripeLength s)) 5
-    ∷ unless (ascends 0 (columns s) es) 6
+    ∷ unless (ascending 0 (columns s) es) 6
     ∷ unless (leb (length (recordOf s es xs)) 65536) 5
     ∷ unless (leb (length (recordOf s es xs)) room) 5
     ∷ [])

@@ -11,10 +11,11 @@ ghost use mathlib.Core.Path.{_≡_};
 ghost use Prim.Native.Nat.{_+_, _≤_};
 ghost use lib.ListN.{length};
 ghost use lib.Seq.{sets};
+ghost use Rattle.stripe.specs.Stripe.{ascending};
 ghost use Rattle.number.specs.Number.{written};
 ghost use Rattle.record.specs.Layout.{positionsWritten, recordHead, recordOf};
 ghost use Rattle.record.specs.Reading.{stripeRefusal};
-ghost use Rattle.writing.specs.Writing.{ascends, writeRefusal, writtenOf, outWritten};
+ghost use Rattle.writing.specs.Writing.{writeRefusal, writtenOf, outWritten};
 
 // What writing reports: 0 and the record's length; or a refusal, and 0.
 pub struct Written {
@@ -24,7 +25,7 @@ pub struct Written {
 
 // Whether the positions are strictly ascending and below n.
 fn ascends_below(lost: &[u16], n: usize) -> bool
-    ensures { λ r. ⌜ r ≡ ascends 0 n (now (lost .entry)) ⌝ }
+    ensures { λ r. ⌜ r ≡ ascending 0 n (now (lost .entry)) ⌝ }
 {
     let mut least = 0;
     let mut i = 0;

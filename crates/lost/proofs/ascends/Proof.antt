@@ -4,7 +4,8 @@ use mathlib.Core.Path.{_≡_, refl, sym, _∙_}
 use native.Mathlib.Omega.{arith}
 use borrow.Author.Needs.{needs}
 use lib.ListN.{length, drop}
-use Rattle.lost.specs.Positions.{positions, ascending}
+use Rattle.stripe.specs.Stripe.{ascending}
+use Rattle.lost.specs.Positions.{positions}
 use Rattle.lost.proofs.Listed.{low-pair, high-pair, good-pair, no-pair}
 use Rattle.lost.proofs.ascends.Statement.{statement}
 use Rattle.lost.proofs.ascends.Tie as tie

@@ -5,13 +5,13 @@ use native.Mathlib.Omega.{arith}
 use lib.ListN.{length, drop}
 use borrow.Author.Needs.{needs}
 use denote.Ref.{now}
-use Rattle.writing.specs.Writing.{ascends}
+use Rattle.stripe.specs.Stripe.{ascending}
 use Rattle.writing.proofs.Putting.{ascends-low, ascends-high, ascends-turn, ascends-done}
 use Rattle.writing.proofs.ascends_below.Statement.{statement}
 use Rattle.writing.proofs.ascends_below.Tie as tie
 
 abbrev Inv-loop : tie.InvT-loop
-Inv-loop lost n least₀ i₀ least i = ascends 0 n lost ≡ ascends least n (drop i lost)
+Inv-loop lost n least₀ i₀ least i = ascending 0 n lost ≡ ascending least n (drop i lost)
 
 abbrev μ-loop : tie.MeasureT-loop
 μ-loop lost n least₀ i₀ least i = length lost - i

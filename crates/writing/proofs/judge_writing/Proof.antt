@@ -8,9 +8,10 @@ use borrow.Author.Tests.{not-true, not-false}
 use borrow.Author.Needs.{needs}
 use denote.Ref.{now}
 use Rattle.stripe.specs.Shape.{columns}
+use Rattle.stripe.proofs.Ascending.{ascending-says}
 use Rattle.record.specs.Layout.{recordOf}
 use Rattle.record.proofs.Refusals.{described}
-use Rattle.writing.proofs.Putting.{ascends-ascending, few-lost, head-most, record-bytes, write-stripe, write-buffer, write-order, write-long, write-room, write-lawful, unwritten-is, written-is}
+use Rattle.writing.proofs.Putting.{few-lost, head-most, record-bytes, write-stripe, write-buffer, write-order, write-long, write-room, write-lawful, unwritten-is, written-is}
 use Rattle.writing.proofs.judge_writing.Statement.{statement}
 use Rattle.writing.proofs.judge_writing.Tie as tie
 
@@ -80,7 +81,7 @@ head-length-requires c κs =
     let one = sym (c .before .before .before .before .before .before .stripe-refusal .ensures) ∙ c .before .before .before .before .before .if1 .left in
     let d = described (a .s) one in
     let ord = sym (c .before .ascends-below .ensures) ∙ not-false _ (c .if3 .left) in
-    let asc = ascends-ascending 0 (columns (a .s)) es ord in
+    let asc = ascending-says 0 (columns (a .s)) es ord in
     let few = few-lost (columns (a .s)) es asc in
     (one, omega (arith, few, d .0 .data-most, d .0 .parity-most))
 
@@ -92,7 +93,7 @@ sub-length c =
     let one = sym (c .before .before .before .before .before .before .before .stripe-refusal .ensures) ∙ c .before .before .before .before .before .before .if1 .left in
     let d = described (a .s) one in
     let ord = sym (c .before .before .ascends-below .ensures) ∙ not-false _ (c .before .if3 .left) in
-    let asc = ascends-ascending 0 (columns (a .s)) es ord in
+    let asc = ascending-says 0 (columns (a .s)) es ord in
     let few = few-lost (columns (a .s)) es asc in
     omega (arith, few)
 
@@ -104,7 +105,7 @@ mul-length c =
     let one = sym (c .before .before .before .before .before .before .before .before .stripe-refusal .ensures) ∙ c .before .before .before .before .before .before .before .if1 .left in
     let d = described (a .s) one in
     let ord = sym (c .before .before .before .ascends-below .ensures) ∙ not-false _ (c .before .before .if3 .left) in
-    let asc = ascends-ascending 0 (columns (a .s)) es ord in
+    let asc = ascending-says 0 (columns (a .s)) es ord in
     let few = few-lost (columns (a .s)) es asc in
     omega (arith, d .1, mul-le-mul-right {m = columns (a .s) - length es} {n = columns (a .s)} (a .s .l) (omega arith))
 
@@ -116,7 +117,7 @@ add-length c =
     let one = sym (c .before .before .before .before .before .before .before .before .stripe-refusal .ensures) ∙ c .before .before .before .before .before .before .before .if1 .left in
     let d = described (a .s) one in
     let ord = sym (c .before .before .before .ascends-below .ensures) ∙ not-false _ (c .before .before .if3 .left) in
-    let asc = ascends-ascending 0 (columns (a .s)) es ord in
+    let asc = ascending-says 0 (columns (a .s)) es ord in
     let few = few-lost (columns (a .s)) es asc in
     omega (arith, d .1, mul-le-mul-right {m = columns (a .s) - length es} {n = columns (a .s)} (a .s .l) (omega arith), c .before .head-length .ensures, head-most (a .s) es (omega (arith, few, d .0 .data-most, d .0 .parity-most)))
 
@@ -131,7 +132,7 @@ returns-4 c =
     let one = sym (c .before .before .before .before .before .before .before .before .before .before .stripe-refusal .ensures) ∙ c .before .before .before .before .before .before .before .before .before .if1 .left in
     let d = described (a .s) one in
     let ord = sym (c .before .before .before .before .before .ascends-below .ensures) ∙ not-false _ (c .before .before .before .before .if3 .left) in
-    let asc = ascends-ascending 0 (columns (a .s)) es ord in
+    let asc = ascending-says 0 (columns (a .s)) es ord in
     let few = few-lost (columns (a .s)) es asc in
     let len : c .before .before .before .head-length .result + (columns (a .s) - length es) * a .s .l ≡ length (recordOf (a .s) es xs) = ap (λ (n : ℕ). n + (columns (a .s) - length es) * a .s .l) (c .before .before .before .head-length .ensures) ∙ sym (record-bytes (a .s) es xs asc (c .before .before .before .before .before .before .if2 .left)) in
     unwritten-is (a .s) xs es (a .room) 5 (c .unwritten4 .result) (c .unwritten4 .ensures) (write-long (a .s) xs es (a .room) one (c .before .before .before .before .before .before .if2 .left) ord (omega (arith, len, c .before .if4 .taken))) (λ z. omega arith)
@@ -147,7 +148,7 @@ returns-5 c =
     let one = sym (c .before .before .before .before .before .before .before .before .before .before .before .stripe-refusal .ensures) ∙ c .before .before .before .before .before .before .before .before .before .before .if1 .left in
     let d = described (a .s) one in
     let ord = sym (c .before .before .before .before .before .before .ascends-below .ensures) ∙ not-false _ (c .before .before .before .before .before .if3 .left) in
-    let asc = ascends-ascending 0 (columns (a .s)) es ord in
+    let asc = ascending-says 0 (columns (a .s)) es ord in
     let few = few-lost (columns (a .s)) es asc in
     let len : c .before .before .before .before .head-length .result + (columns (a .s) - length es) * a .s .l ≡ length (recordOf (a .s) es xs) = ap (λ (n : ℕ). n + (columns (a .s) - length es) * a .s .l) (c .before .before .before .before .head-length .ensures) ∙ sym (record-bytes (a .s) es xs asc (c .before .before .before .before .before .before .before .if2 .left)) in
     unwritten-is (a .s) xs es (a .room) 5 (c .unwritten5 .result) (c .unwritten5 .ensures) (write-room (a .s) xs es (a .room) one (c .before .before .before .before .before .before .before .if2 .left) ord (omega (arith, len, c .before .before .if4 .left)) (omega (arith, len, c .before .if5 .taken))) (λ z. omega arith)
@@ -160,7 +161,7 @@ returns-6 c =
     let one = sym (c .before .before .before .before .before .before .before .before .before .before .stripe-refusal .ensures) ∙ c .before .before .before .before .before .before .before .before .before .if1 .left in
     let d = described (a .s) one in
     let ord = sym (c .before .before .before .before .before .ascends-below .ensures) ∙ not-false _ (c .before .before .before .before .if3 .left) in
-    let asc = ascends-ascending 0 (columns (a .s)) es ord in
+    let asc = ascending-says 0 (columns (a .s)) es ord in
     let few = few-lost (columns (a .s)) es asc in
     let len : c .before .before .before .head-length .result + (columns (a .s) - length es) * a .s .l ≡ length (recordOf (a .s) es xs) = ap (λ (n : ℕ). n + (columns (a .s) - length es) * a .s .l) (c .before .before .before .head-length .ensures) ∙ sym (record-bytes (a .s) es xs asc (c .before .before .before .before .before .before .if2 .left)) in
     written-is (a .s) xs es (a .room) _ len (sym (write-lawful (a .s) xs es (a .room) one (c .before .before .before .before .before .before .if2 .left) ord (omega (arith, len, c .before .if4 .left)) (omega (arith, len, c .if5 .left))))

@@ -20,7 +20,7 @@ use Rattle.rows.specs.Rows.{Added, added}
 use Rattle.rows.proofs.Fits.{Columns, Run, fit-run}
 use Rattle.rows.proofs.Added.{added-places}
 use Rattle.coding.specs.Encode.{IsRow, IsParity, Beside}
-use Rattle.stripe.proofs.Allowed.{Prepared, allowed, prepared-runs, prepared-run-length}
+use Rattle.stripe.proofs.Allowed.{Prepared, allowed, prepared-runs}
 use Rattle.stripe.proofs.Lent.{lent}
 use Rattle.coding.proofs.Encoded.{columns}
 use Rattle.lanes.proofs.Parts.{part-length, part-at, back-length, back-inside, back-outside}
@@ -128,11 +128,10 @@ pub record Marked (s : Shape) (d n m : ℕ) : Type 0 where
   pub columns : Columns d (s .k) (s .l)
   pub parity-long : n ≡ s .r * s .l
 
-pub marked : (s : Shape) (d n : ℕ) → lentRefusal s d n ≡ 0 → 0 < s .t → Marked s d n (s .l / s .t)
-marked s d n e h =
+pub marked : (s : Shape) (d n m : ℕ) → lentRefusal s d n ≡ 0 → 0 < s .t → m ≡ runLength s → Marked s d n m
+marked s d n m e h is =
     let f = lent s d n e in
     let a = allowed s (f .shape) in
-    let is : s .l / s .t ≡ runLength s = sym (prepared-run-length s h) in
     let p : Prepared s = ⊎-elim (λ z. absurd (not-suc-le-zero (subst (λ (x : ℕ). 0 < x) z h))) (λ p. p) (a .mark) in
     record {
       is = is;

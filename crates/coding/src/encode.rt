@@ -61,7 +61,7 @@ fn add_runs(s: Shape, data: &[u8], i: usize, out: &mut [u8])
     let r = s.r;
     let l = s.l;
     let t = s.t;
-    let m = l / t;
+    let m = s.run_length();
     let mut j = r;
     while j < t {
         let a = i * l + j * m;

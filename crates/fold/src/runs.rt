@@ -3,22 +3,11 @@ ghost use mathlib.Core.Path.{_≡_};
 ghost use Prim.Native.Nat.{_*_, _<_};
 ghost use lib.ListN.{length};
 ghost use Rattle.stripe.specs.Shape.{shapeRefusal, mostRows};
-ghost use Rattle.stripe.specs.Stripe.{runs};
 ghost use Rattle.plan.specs.Plan.{kindOf, bytesEach};
 ghost use Rattle.fold.specs.Shares.{ReadsParity, IsRows, shareOf, taken};
 use crate::shares::Share;
 use crate::shares::take_share;
 use stripe::Shape;
-
-// How many runs a column is cut into.
-fn run_count(s: Shape) -> usize
-    ensures { λ v. ⌜ v ≡ runs s ⌝ }
-{
-    if s.t == 0 {
-        return 1;
-    }
-    s.t
-}
 
 // What a stripe adds to run b of wide row j, where it is prepared.
 fn prepared_share(s: Shape, j: usize, b: usize) -> Share
@@ -57,8 +46,8 @@ pub(crate) fn take_runs(s: Shape, f: usize, first: bool, d: &[u8], rows: &[u8], 
     ensures { λ _. ⌜ now (parity .exit) ≡ taken s f first (now (d .entry)) (now (parity .entry)) ⌝ }
 {
     let k = s.k;
-    let cut = run_count(s);
-    let q = s.l / cut;
+    let cut = s.runs();
+    let q = s.run_length();
     let all = f * cut;
     let mut i = 0;
     while i < all {

@@ -7,7 +7,7 @@ use stripe::Shape;
 ghost use mathlib.Core.Path.{_≡_};
 ghost use Prim.Native.Nat.{_+_, _*_, _≤_, _<_};
 ghost use lib.ListN.{length};
-ghost use Rattle.stripe.specs.Shape.{shapeRefusal, mostParity, mostParityLength};
+ghost use Rattle.stripe.specs.Shape.{mostParity, mostParityLength};
 ghost use Rattle.stripe.specs.Stripe.{runs, runLength};
 ghost use Rattle.stripe.proofs.Errors.{points as powers};
 ghost use Rattle.mending.specs.Slots.{Sources, Gathered};
@@ -22,8 +22,8 @@ pub(crate) fn solve_runs(s: Shape, p: Plan, slots: &mut [u8])
     let count = p.count;
     let points = row_weights(p, p.pivot, p.step);
     let weights = row_weights(p, p.pivot, p.first);
-    let n = run_count(s);
-    let m = run_length(s);
+    let n = s.runs();
+    let m = s.run_length();
     let l = s.l;
     let at = p.first * l;
     let d = p.step * l;
@@ -70,23 +70,4 @@ pub(crate) fn add_row(
     let count = p.count;
     let w = row_weights(p, x, j);
     gather(&w[..count], slots, to, p.first * l + off, p.step * l, n);
-}
-
-// How many runs a column has.
-fn run_count(s: Shape) -> usize
-    requires { ⌜ shapeRefusal s ≡ 0 ⌝ }
-    ensures { λ v. ⌜ v ≡ runs s ⌝ }
-{
-    if s.t == 0 { 1 } else { s.t }
-}
-
-// The bytes of a run.
-fn run_length(s: Shape) -> usize
-    requires { ⌜ shapeRefusal s ≡ 0 ⌝ }
-    ensures { λ v. ⌜ v ≡ runLength s ⌝ }
-{
-    if s.t == 0 {
-        return s.l;
-    }
-    s.l / s.t
 }

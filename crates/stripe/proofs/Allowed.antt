@@ -1,5 +1,5 @@
 -- What an allowed shape says, as plain facts about its numbers: each is read off from one test of `shapeRefusal`.
-use mathlib.Core.Path.{_≡_, refl, ap, _∙_}
+use mathlib.Core.Path.{_≡_, refl, sym, ap, _∙_, subst}
 use mathlib.Core.Bool.{Bool, true, false, cond, _&&_, _||_}
 use mathlib.Core.Logic.{_⊎_, inl, inr}
 use Prim.Native.Nat.{ℕ, zero, suc, _*_, _/_, _%_, _<_, _≤_}
@@ -7,7 +7,7 @@ use native.Mathlib.Nat.{mul-le-mul, mul-le-mul-right, div-one, one-mul, suc-ne-z
 use native.Mathlib.Omega.{arith}
 use lib.Dec.{leb, ltb, eqb}
 use borrow.Author.Tests.{ltb-true, leb-true, eqb-true, eq-eqb, ne-eqb}
-use Rattle.field.proofs.Cases.{and-left, and-right}
+use Rattle.field.proofs.Cases.{below-or-from, and-left, and-right}
 use Rattle.stripe.specs.declared.Shape.{Shape}
 use Rattle.stripe.specs.Shape.{shapeRefusal, dataAllowed, parityAllowed, markAllowed, lengthAllowed, dataLength, parityLength, stripeLength}
 use Rattle.stripe.specs.Shape.{mostData, mostRows, mostParity, mostColumns, mostLength, mostParityLength}
@@ -63,6 +63,13 @@ plain-runs s e = ap (λ (b : Bool). cond b 1 (s .t)) (eq-eqb (s .t) 0 e)
 
 pub prepared-runs : (s : Shape) → 1 ≤ s .t → runs s ≡ s .t
 prepared-runs s p = ap (λ (b : Bool). cond b 1 (s .t)) (ne-eqb (s .t) 0 (λ e. omega arith))
+
+pub runs-positive : (s : Shape) → 0 < runs s
+runs-positive s = go (below-or-from 0 (s .t))
+  where
+    go : (0 < s .t) ⊎ (s .t ≤ 0) → 0 < runs s
+    go (inl h) = subst (λ (n : ℕ). 0 < n) (sym (prepared-runs s h)) h
+    go (inr h) = subst (λ (n : ℕ). 0 < n) (sym (plain-runs s (omega arith))) (omega arith)
 
 pub run-length-by : (s : Shape) (n : ℕ) → runs s ≡ n → runLength s ≡ s .l / n
 unfolding runLength

@@ -9,6 +9,10 @@ use Rattle.stripe.proofs.Shape.new as shape-new
 use Rattle.stripe.proofs.Shape.new.Reads as shape-new-reads
 use Rattle.stripe.proofs.Shape.refusal as shape-refusal
 use Rattle.stripe.proofs.Shape.refusal.Reads as shape-refusal-reads
+use Rattle.stripe.proofs.Shape.runs as shape-runs
+use Rattle.stripe.proofs.Shape.runs.Reads as shape-runs-reads
+use Rattle.stripe.proofs.Shape.run_length as shape-run-length
+use Rattle.stripe.proofs.Shape.run_length.Reads as shape-run-length-reads
 use Rattle.stripe.proofs.column.lent_refusal as lent-refusal
 use Rattle.stripe.proofs.column.lent_refusal.Reads as lent-refusal-reads
 use Rattle.stripe.proofs.column.column as column
@@ -28,6 +32,14 @@ shape-new-unique κs a r r′ s s′ p q =
 pub shape-refusal-unique : (κs : Lfts 0) (a : ArgsD shape-refusal.signature κs) (r r′ : ResD shape-refusal.signature κs)
     (s s′ : AtExit shape-refusal.ended κs) → shape-refusal-reads.Post κs a r s → shape-refusal-reads.Post κs a r′ s′ → r ≡ r′
 shape-refusal-unique κs a r r′ s s′ p q = p ∙ sym q
+
+pub shape-runs-unique : (κs : Lfts 0) (a : ArgsD shape-runs.signature κs) (r r′ : ResD shape-runs.signature κs)
+    (s s′ : AtExit shape-runs.ended κs) → shape-runs-reads.Post κs a r s → shape-runs-reads.Post κs a r′ s′ → r ≡ r′
+shape-runs-unique κs a r r′ s s′ p q = p ∙ sym q
+
+pub shape-run-length-unique : (κs : Lfts 0) (a : ArgsD shape-run-length.signature κs) (r r′ : ResD shape-run-length.signature κs)
+    (s s′ : AtExit shape-run-length.ended κs) → shape-run-length-reads.Post κs a r s → shape-run-length-reads.Post κs a r′ s′ → r ≡ r′
+shape-run-length-unique κs a r r′ s s′ p q = p ∙ sym q
 
 pub lent-refusal-unique : (κs : Lfts 0) (a : ArgsD lent-refusal.signature κs) (r r′ : ResD lent-refusal.signature κs)
     (s s′ : AtExit lent-refusal.ended κs) → lent-refusal-reads.Post κs a r s → lent-refusal-reads.Post κs a r′ s′ → r ≡ r′

@@ -3,7 +3,7 @@ pub mod column;
 
 ghost use mathlib.Core.Path.{_≡_};
 ghost use Rattle.stripe.specs.Shape.{markAllowed, lengthAllowed, shapeRefusal};
-ghost use Rattle.stripe.specs.Stripe.{among};
+ghost use Rattle.stripe.specs.Stripe.{runs, runLength, among};
 
 // The most data columns.
 pub const MOST_DATA: usize = 255;
@@ -60,6 +60,20 @@ impl Shape {
             return 2;
         }
         0
+    }
+
+    // How many runs a column is cut into: t, or one if the stripe is plain.
+    pub fn runs(self) -> usize
+        ensures { λ v. ⌜ v ≡ runs self ⌝ }
+    {
+        if self.t == 0 { 1 } else { self.t }
+    }
+
+    // The bytes of a run.
+    pub fn run_length(self) -> usize
+        ensures { λ v. ⌜ v ≡ runLength self ⌝ }
+    {
+        self.l / self.runs()
     }
 }
 

@@ -1,5 +1,5 @@
 -- `add_runs` meets its contract: the runs before j have their piggybacks.
-use Prim.Native.Nat.{ℕ, _+_, _*_, _-_, _/_, _≤_}
+use Prim.Native.Nat.{ℕ, _+_, _*_, _-_, _≤_}
 use mathlib.Core.Path.{_≡_, refl}
 use native.Mathlib.Nat.{mul-le-mul-right}
 use native.Mathlib.Omega.{arith}
@@ -21,22 +21,35 @@ Inv-loop «data» i out₀ k r l t m j₀ out j = (r ≤ j) × (j ≤ t) × (m �
 abbrev μ-loop : tie.MeasureT-loop
 μ-loop «data» i out₀ k r l t m j₀ out j = t - j
 
-known : (c : tie.Start Inv-loop μ-loop) → Marked (c .args .s) (length (c .args .«data» .now)) (length (c .args .out .now)) (c .args .s .l / c .args .s .t)
-known c = marked (c .args .s) _ _ (c .pre .0) (c .pre .1 .0)
+known : (c : tie.Start Inv-loop μ-loop) (m : ℕ) → m ≡ runLength (c .args .s)
+    → Marked (c .args .s) (length (c .args .«data» .now)) (length (c .args .out .now)) m
+known c m = marked (c .args .s) _ _ m (c .pre .0) (c .pre .1 .0)
 
-here : (c : tie.In-loop Inv-loop μ-loop) → let a = c .before .before .before .before .args in InRun (a .s) (length (a .«data» .now)) (a .i) (c .before .loop .j) (length (c .before .loop .out)) (a .s .l / a .s .t)
+-- the function's start, the bytes of a run, and what is known of both within the loop
+abbrev start : tie.In-loop Inv-loop μ-loop → tie.Start Inv-loop μ-loop
+start c = c .before .before .before .before .before
+
+abbrev width : tie.In-loop Inv-loop μ-loop → ℕ
+width c = c .before .before .run-length .result
+
+known-here : (c : tie.In-loop Inv-loop μ-loop)
+    → let a = start c .args in Marked (a .s) (length (a .«data» .now)) (length (a .out .now)) (width c)
+known-here c = known (start c) (width c) (c .before .before .run-length .ensures)
+
+here : (c : tie.In-loop Inv-loop μ-loop)
+    → let a = start c .args in InRun (a .s) (length (a .«data» .now)) (a .i) (c .before .loop .j) (length (c .before .loop .out)) (width c)
 here c =
-    let s = c .before .before .before .before in
+    let s = start c in
     let at = c .before .loop in
-    in-run (s .args .s) _ _ _ _ (s .args .i) (at .j) (known s) (at .inv .4 .long) (s .pre .1 .1 .0) (c .loop-test .taken)
+    in-run (s .args .s) _ _ _ _ (s .args .i) (at .j) (known-here c) (at .inv .4 .long) (s .pre .1 .1 .0) (c .loop-test .taken)
 
-div-m : tie.Need-div-m Inv-loop μ-loop
-div-m c = search needs
+run-length-requires : tie.Need-run-length-requires Inv-loop μ-loop
+run-length-requires c κs = search needs
 
 loop-holds : tie.Need-loop-holds Inv-loop μ-loop
 loop-holds c =
-    let s = c .before .before in
-    let f = known s in (
+    let s = c .before .before .before in
+    let f = known s _ (c .run-length .ensures) in (
       search needs,
       omega (arith, f .gains),
       f .is,
@@ -80,11 +93,11 @@ loop-less c = search needs
 loop-again : tie.Need-loop-again Inv-loop μ-loop
 loop-again c =
     let t = c .before .before .before .before in
-    let s = c .before .before .before .before .before .before .before .before in
+    let s = start t in
     let a = s .args in
     let at = t .before .loop in
-    let m = a .s .l / a .s .t in
-    let f = known s in
+    let m = width t in
+    let f = known-here t in
     let g = added-run (a .«data» .now) (a .s .k) (a .s .l) (at .j) (a .i * m) (a .i * a .s .l + at .j * m) m (at .out) _ (omega (arith, here t)) (here t .known) (c .before .before .add-row .ensures) in (
       search needs,
       search needs,
@@ -98,10 +111,11 @@ same-length c = search needs
 
 returns : tie.Need-returns Inv-loop μ-loop
 returns c =
-    let s = c .before .before .before .before in
+    let s = c .before .before .before .before .before in
     let at = c .before .loop in
-    let f = known s in
-    (column-done (s .args .s) _ _ _ _ (omega (arith, f .cut, mul-le-mul-right (s .args .s .l / s .args .s .t) (c .loop-test .left))) (at .inv .3), at .inv .4)
+    let f = known s _ (c .before .before .run-length .ensures) in
+    let ends = mul-le-mul-right (c .before .before .run-length .result) (c .loop-test .left) in
+    (column-done (s .args .s) _ _ _ _ (omega (arith, f .cut, ends)) (at .inv .3), at .inv .4)
 
 pub add-runs-spec : {M : Type 1} → statement M
 add-runs-spec =
@@ -109,7 +123,7 @@ add-runs-spec =
     (tie.spec
     Inv-loop
     μ-loop
-    div-m
+    run-length-requires
     loop-holds
     mul-a
     mul-a-2

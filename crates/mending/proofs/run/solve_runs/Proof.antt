@@ -17,6 +17,7 @@ use Rattle.mending.proofs.Slots.{spaced-as}
 use Rattle.mending.proofs.Runs.{first-length, step-length, sizes, runs-start, run-spaced, run-solved, powers-length}
 use Rattle.mending.proofs.run.solve_runs.Statement.{statement}
 use Rattle.mending.proofs.run.solve_runs.Tie as tie
+use borrow.Author.Needs.{needs}
 
 abbrev Inv-loop : tie.InvT-loop
 Inv-loop s p slots₀ count points weights n m l at d b₀ slots b =
@@ -31,11 +32,11 @@ row-weights-requires c κs = let f = allowed (c .before .args .s) (c .before .pr
 row-weights-requires-2 : tie.Need-row-weights-requires-2 Inv-loop μ-loop
 row-weights-requires-2 c κs = let f = allowed (c .before .before .args .s) (c .before .before .pre .shape) in weights-asked (c .before .before .args .s) (c .before .before .args .p) _ _ f (c .before .before .pre .plan) (omega arith) (omega (arith, first-few (c .before .before .args .s) f (c .before .before .args .p) (c .before .before .pre .plan)))
 
-run-count-requires : tie.Need-run-count-requires Inv-loop μ-loop
-run-count-requires c κs = c .before .before .before .pre .shape
+runs-requires : tie.Need-runs-requires Inv-loop μ-loop
+runs-requires c κs = search needs
 
 run-length-requires : tie.Need-run-length-requires Inv-loop μ-loop
-run-length-requires c κs = c .before .before .before .before .pre .shape
+run-length-requires c κs = search needs
 
 mul-at : tie.Need-mul-at Inv-loop μ-loop
 mul-at c = omega (arith, first-length (c .before .before .before .before .before .before .args .s) (c .before .before .before .before .before .before .args .p) (allowed (c .before .before .before .before .before .before .args .s) (c .before .before .before .before .before .before .pre .shape)) (c .before .before .before .before .before .before .pre .plan), step-length (c .before .before .before .before .before .before .args .s) (c .before .before .before .before .before .before .args .p) (allowed (c .before .before .before .before .before .before .args .s) (c .before .before .before .before .before .before .pre .shape)) (c .before .before .before .before .before .before .pre .plan))
@@ -49,7 +50,7 @@ loop-holds c = (omega arith, (refl, (λ i. c .before .before .before .before .be
 carry-requires : tie.Need-carry-requires Inv-loop μ-loop
 carry-requires c κs =
     let w = c .before .before .before .before .before .before .before .before .before .before .pre in
-    (record { shape = w .shape; plan = w .plan; long = c .before .before .loop .inv .1 .0 ∙ w .long }, (c .before .before .before .before .before .run-length .ensures, omega (arith, c .before .loop-test .taken, c .before .before .before .before .before .before .run-count .ensures)))
+    (record { shape = w .shape; plan = w .plan; long = c .before .before .loop .inv .1 .0 ∙ w .long }, (c .before .before .before .before .before .run-length .ensures, omega (arith, c .before .loop-test .taken, c .before .before .before .before .before .before .runs .ensures)))
 
 array-share-prefix-points : tie.Need-array-share-prefix-points Inv-loop μ-loop
 array-share-prefix-points c = let w = c .before .before .before .before .before .before .before .before .before .before .before .before .before .pre .plan in omega (arith, c .before .before .before .before .before .before .before .before .before .before .before .row-weights .ensures .0, w .many, w .few)
@@ -64,10 +65,10 @@ slice-aggregate-solve-slots-2 : tie.Need-slice-aggregate-solve-slots-2 Inv-loop 
 slice-aggregate-solve-slots-2 c = let w = c .before .before .before .before .before .before .before .before .before .before .before .before .before .before .before .pre .plan in sym (length-take-le (c .before .before .before .before .before .before .before .before .before .before .before .before .before .before .before .args .p .count) (c .before .before .before .before .before .before .before .before .before .before .before .before .row-weights2 .result) (omega (arith, c .before .before .before .before .before .before .before .before .before .before .before .before .row-weights2 .ensures .0, w .many, w .few)))
 
 mul-solve-slots : tie.Need-mul-solve-slots Inv-loop μ-loop
-mul-solve-slots c = let w = c .before .before .before .before .before .before .before .before .before .before .before .before .before .before .before .before .pre in let f = allowed (c .before .before .before .before .before .before .before .before .before .before .before .before .before .before .before .before .args .s) (w .shape) in let z = sizes (c .before .before .before .before .before .before .before .before .before .before .before .before .before .before .before .before .args .s) (c .before .before .before .before .before .before .before .before .before .before .before .before .before .before .before .before .args .p) (c .before .before .before .before .before .before .before .before .loop .b) 0 (c .before .before .before .before .before .before .before .before .before .before .before .run-length .result) f (w .plan) (c .before .before .before .before .before .before .before .before .before .before .before .run-length .ensures) (omega (arith, c .before .before .before .before .before .before .before .loop-test .taken, c .before .before .before .before .before .before .before .before .before .before .before .before .run-count .ensures)) (f .parity-some) in omega (arith, z .run)
+mul-solve-slots c = let w = c .before .before .before .before .before .before .before .before .before .before .before .before .before .before .before .before .pre in let f = allowed (c .before .before .before .before .before .before .before .before .before .before .before .before .before .before .before .before .args .s) (w .shape) in let z = sizes (c .before .before .before .before .before .before .before .before .before .before .before .before .before .before .before .before .args .s) (c .before .before .before .before .before .before .before .before .before .before .before .before .before .before .before .before .args .p) (c .before .before .before .before .before .before .before .before .loop .b) 0 (c .before .before .before .before .before .before .before .before .before .before .before .run-length .result) f (w .plan) (c .before .before .before .before .before .before .before .before .before .before .before .run-length .ensures) (omega (arith, c .before .before .before .before .before .before .before .loop-test .taken, c .before .before .before .before .before .before .before .before .before .before .before .before .runs .ensures)) (f .parity-some) in omega (arith, z .run)
 
 add-solve-slots : tie.Need-add-solve-slots Inv-loop μ-loop
-add-solve-slots c = let w = c .before .before .before .before .before .before .before .before .before .before .before .before .before .before .before .before .pre in let f = allowed (c .before .before .before .before .before .before .before .before .before .before .before .before .before .before .before .before .args .s) (w .shape) in let z = sizes (c .before .before .before .before .before .before .before .before .before .before .before .before .before .before .before .before .args .s) (c .before .before .before .before .before .before .before .before .before .before .before .before .before .before .before .before .args .p) (c .before .before .before .before .before .before .before .before .loop .b) 0 (c .before .before .before .before .before .before .before .before .before .before .before .run-length .result) f (w .plan) (c .before .before .before .before .before .before .before .before .before .before .before .run-length .ensures) (omega (arith, c .before .before .before .before .before .before .before .loop-test .taken, c .before .before .before .before .before .before .before .before .before .before .before .before .run-count .ensures)) (f .parity-some) in omega (arith, z .first, z .run)
+add-solve-slots c = let w = c .before .before .before .before .before .before .before .before .before .before .before .before .before .before .before .before .pre in let f = allowed (c .before .before .before .before .before .before .before .before .before .before .before .before .before .before .before .before .args .s) (w .shape) in let z = sizes (c .before .before .before .before .before .before .before .before .before .before .before .before .before .before .before .before .args .s) (c .before .before .before .before .before .before .before .before .before .before .before .before .before .before .before .before .args .p) (c .before .before .before .before .before .before .before .before .loop .b) 0 (c .before .before .before .before .before .before .before .before .before .before .before .run-length .result) f (w .plan) (c .before .before .before .before .before .before .before .before .before .before .before .run-length .ensures) (omega (arith, c .before .before .before .before .before .before .before .loop-test .taken, c .before .before .before .before .before .before .before .before .before .before .before .before .runs .ensures)) (f .parity-some) in omega (arith, z .first, z .run)
 
 solve-slots-requires : tie.Need-solve-slots-requires Inv-loop μ-loop
 solve-slots-requires c κs =
@@ -79,7 +80,7 @@ solve-slots-requires c κs =
     let bs = powers-length (a .s) f (a .p) (w .plan) (a .p .step) _ (c .before .before .before .before .before .before .before .before .before .before .before .before .before .before .row-weights .ensures .1 ∙ ap (powers (a .p .step)) is) in
     let ws = powers-length (a .s) f (a .p) (w .plan) (a .p .first) _ (c .before .before .before .before .before .before .before .before .before .before .before .before .before .row-weights2 .ensures .1 ∙ ap (powers (a .p .first)) is) in (
       spaced-as _ _ _ _ _ _ _ (sym bs) (sym (k .long ∙ c .before .before .before .before .before .before .before .before .loop .inv .1 .0))
-          (run-spaced (a .s) (a .p) (c .before .before .before .before .before .before .before .before .loop .b) (c .before .before .before .before .before .before .before .before .before .before .before .run-length .result) _ f (w .plan) (c .before .before .before .before .before .before .before .before .before .before .before .run-length .ensures) (omega (arith, c .before .before .before .before .before .before .before .loop-test .taken, c .before .before .before .before .before .before .before .before .before .before .before .before .run-count .ensures)) (w .long)),
+          (run-spaced (a .s) (a .p) (c .before .before .before .before .before .before .before .before .loop .b) (c .before .before .before .before .before .before .before .before .before .before .before .run-length .result) _ f (w .plan) (c .before .before .before .before .before .before .before .before .before .before .before .run-length .ensures) (omega (arith, c .before .before .before .before .before .before .before .loop-test .taken, c .before .before .before .before .before .before .before .before .before .before .before .before .runs .ensures)) (w .long)),
       ws ∙ sym bs,
     )
 
@@ -87,7 +88,7 @@ add-b : tie.Need-add-b Inv-loop μ-loop
 add-b c = let f = allowed (c .before .before .before .before .before .before .before .before .before .before .before .before .before .before .before .before .before .before .before .args .s) (c .before .before .before .before .before .before .before .before .before .before .before .before .before .before .before .before .before .before .before .pre .shape) in omega (arith, c .before .before .before .before .before .before .before .before .before .before .before .loop .inv .0, f .runs-most)
 
 loop-less : tie.Need-loop-less Inv-loop μ-loop
-loop-less c = omega (arith, c .before .before .before .before .before .before .before .before .before .before .loop-test .taken, c .before .before .before .before .before .before .before .before .before .before .before .before .before .before .before .run-count .ensures)
+loop-less c = omega (arith, c .before .before .before .before .before .before .before .before .before .before .loop-test .taken, c .before .before .before .before .before .before .before .before .before .before .before .before .before .before .before .runs .ensures)
 
 loop-again : tie.Need-loop-again Inv-loop μ-loop
 loop-again c =
@@ -96,9 +97,9 @@ loop-again c =
     let t = c .before .before .before .before .before .before .before .before .before .before .before .loop in
     let is = ap (less (a .p .pivot)) (w .plan .front) in
     let k = run-solved (a .s) (allowed (a .s) (w .shape)) (a .p) (w .plan) (t .b) (c .before .before .before .before .before .before .before .before .before .before .before .before .before .before .run-length .result) _ _ (t .slots) (c .before .before .before .before .before .before .before .before .carry .last .1 .1 .1 .1 .0) _
-    (c .before .before .before .before .before .before .before .before .before .before .before .before .before .before .run-length .ensures) (omega (arith, c .before .before .before .before .before .before .before .before .before .before .loop-test .taken, c .before .before .before .before .before .before .before .before .before .before .before .before .before .before .before .run-count .ensures)) (t .inv .1 .1 .0) (λ i. c .before .before .before .before .before .before .slice-known2 .given i .fits)
+    (c .before .before .before .before .before .before .before .before .before .before .before .before .before .before .run-length .ensures) (omega (arith, c .before .before .before .before .before .before .before .before .before .before .loop-test .taken, c .before .before .before .before .before .before .before .before .before .before .before .before .before .before .before .runs .ensures)) (t .inv .1 .1 .0) (λ i. c .before .before .before .before .before .before .slice-known2 .given i .fits)
     (c .before .before .before .before .before .before .before .before .before .before .before .before .before .before .before .before .before .row-weights .ensures .1 ∙ ap (powers (a .p .step)) is) (c .before .before .before .before .before .before .before .before .before .before .before .before .before .before .before .before .row-weights2 .ensures .1 ∙ ap (powers (a .p .first)) is) (c .before .before .before .before .before .before .before .before .carry .ensures) (c .before .before .solve-slots .ensures) in
-    (omega (arith, c .before .before .before .before .before .before .before .before .before .before .loop-test .taken, c .before .before .before .before .before .before .before .before .before .before .before .before .before .before .before .run-count .ensures), (k .long ∙ t .inv .1 .0, (λ i. c .slice-known3 .given i .fits, λ xs b z. k .more xs b (t .inv .1 .1 .1 xs b z))))
+    (omega (arith, c .before .before .before .before .before .before .before .before .before .before .loop-test .taken, c .before .before .before .before .before .before .before .before .before .before .before .before .before .before .before .runs .ensures), (k .long ∙ t .inv .1 .0, (λ i. c .slice-known3 .given i .fits, λ xs b z. k .more xs b (t .inv .1 .1 .1 xs b z))))
 
 same-length : tie.Need-same-length Inv-loop μ-loop
 same-length c = c .before .loop .inv .1 .0
@@ -106,7 +107,7 @@ same-length c = c .before .loop .inv .1 .0
 returns : tie.Need-returns Inv-loop μ-loop
 returns c =
     let t = c .before .loop in
-    let e : t .b ≡ runs (c .before .before .before .before .before .before .before .before .before .args .s) = omega (arith, t .inv .0, c .loop-test .left, c .before .before .before .before .before .run-count .ensures) in
+    let e : t .b ≡ runs (c .before .before .before .before .before .before .before .before .before .args .s) = omega (arith, t .inv .0, c .loop-test .left, c .before .before .before .before .before .runs .ensures) in
     record { long = t .inv .1 .0; all = λ xs b z. subst (λ (x : ℕ). SolvedBelow (c .before .before .before .before .before .before .before .before .before .args .s) (c .before .before .before .before .before .before .before .before .before .args .p) xs x (t .slots)) e (t .inv .1 .1 .1 xs b z) }
 
 pub solve-runs-spec : {M : Type 1} → statement M
@@ -117,7 +118,7 @@ solve-runs-spec =
     μ-loop
     row-weights-requires
     row-weights-requires-2
-    run-count-requires
+    runs-requires
     run-length-requires
     mul-at
     mul-d

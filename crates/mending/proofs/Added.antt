@@ -26,14 +26,14 @@ use Rattle.stripe.proofs.Survivors.{firstRow, rowStep}
 use Rattle.stripe.proofs.Lost.{rowLost, ascending-at, lost-data-among}
 use Rattle.stripe.proofs.Word.{wordMended, word-mended-agrees, word-mended-own}
 use Rattle.stripe.proofs.Mended.{dataAt, checkAt, wanted, wordAt, word-length}
-use Rattle.mending.specs.declared.plan.Plan.{Plan}
+use Rattle.mending.specs.declared.system.System.{System}
 use Rattle.mending.specs.Slots.{Outside}
-use Rattle.mending.specs.Plan.{lostIn, gone, Other, Planned}
-use Rattle.mending.specs.Scratch.{rowByte, slotRow, Added, SettledBelow}
-use Rattle.mending.proofs.Planned.{count-is, row-below, position-is, position-below, ascending-apart, among-index, among-each, spread, by-one}
+use Rattle.mending.specs.System.{lostIn, gone, Other, Posed}
+use Rattle.mending.specs.Scratch.{rowByte, slotRow, MendedBelow, SettledBelow}
+use Rattle.mending.proofs.Posed.{count-is, row-below, position-is, position-below, ascending-apart, among-index, among-each, spread, by-one}
 use Rattle.mending.proofs.Runs.{place-off, word-is}
 
-module _ (s : Shape) (f : Allowed s) (p : Plan) (w : Planned s p) where
+module _ (s : Shape) (f : Allowed s) (p : System) (w : Posed s p) where
   many : length (lostIn p) ≡ p .lost .count
   many = length-take-le (p .lost .count) (p .lost .at) (omega (arith, w .room, w .few))
 
@@ -82,7 +82,7 @@ module _ (s : Shape) (f : Allowed s) (p : Plan) (w : Planned s p) where
 
   -- ---- column by column
 
-  pub added-start : (slots xs : List ℕ) → Added s p 0 slots xs xs
+  pub added-start : (slots xs : List ℕ) → MendedBelow s p 0 slots xs xs
   added-start slots xs = record { long = refl; own = λ v y h. absurd (omega arith); other = λ c y hy h. refl }
 
   pub column-ends : (i : ℕ) → i < columns s → i * s .l + s .l ≤ stripeLength s
@@ -91,10 +91,10 @@ module _ (s : Shape) (f : Allowed s) (p : Plan) (w : Planned s p) where
   pub slot-ends : (j : ℕ) → j < s .r → j * s .l + s .l ≤ parityLength s
   slot-ends j h = omega (arith, mul-le-mul-right (s .l) h, add-mul j 1 (s .l))
 
-  pub added-turn : (v j : ℕ) (slots xs ys d : List ℕ) → v < p .lost .count → length xs ≡ stripeLength s → length slots ≡ parityLength s → Added s p v slots xs ys
+  pub added-turn : (v j : ℕ) (slots xs ys d : List ℕ) → v < p .lost .count → length xs ≡ stripeLength s → length slots ≡ parityLength s → MendedBelow s p v slots xs ys
       → j ≡ slotRow s p v (getD (p .lost .at) v 0)
       → d ≡ onto (λ (x y : ℕ). x ⊕ y) (take (getD (p .lost .at) v 0 * s .l + s .l - getD (p .lost .at) v 0 * s .l) (drop (getD (p .lost .at) v 0 * s .l) ys)) (take (j * s .l + s .l - j * s .l) (drop (j * s .l) slots))
-      → Added s p (v + 1) slots xs (putMid (getD (p .lost .at) v 0 * s .l) (getD (p .lost .at) v 0 * s .l + s .l - getD (p .lost .at) v 0 * s .l) ys d)
+      → MendedBelow s p (v + 1) slots xs (putMid (getD (p .lost .at) v 0 * s .l) (getD (p .lost .at) v 0 * s .l + s .l - getD (p .lost .at) v 0 * s .l) ys d)
   added-turn v j slots xs ys d hv lx ls t ej ed = record { long = back-length ys d a (s .l) d-long a-fits ∙ t .long; own = own; other = other }
     where
       i : ℕ
@@ -145,7 +145,7 @@ module _ (s : Shape) (f : Allowed s) (p : Plan) (w : Planned s p) where
 
   -- ---- all columns
 
-  module _ (slots xs ys : List ℕ) (bytes : Bytes slots) (t : SettledBelow s p xs (s .r) slots) (a : Added s p (p .lost .count) slots xs ys) where
+  module _ (slots xs ys : List ℕ) (bytes : Bytes slots) (t : SettledBelow s p xs (s .r) slots) (a : MendedBelow s p (p .lost .count) slots xs ys) where
     -- a column that survives stays
     pub added-kept : (c y : ℕ) → y < s .l → among c (lostIn p) ≡ false → rowByte s ys c y ≡ rowByte s xs c y
     added-kept c y hy m = a .other c y hy (λ v hv e. among-each c (lostIn p) v m (omega (arith, many)) (e ∙ sym (lost-at v hv)))
@@ -214,6 +214,6 @@ pub record WriteSizes (s : Shape) (i : ℕ) : Type 0 where
   pub most : stripeLength s ≤ mostColumns * mostLength
   pub small : parityLength s ≤ mostParityLength
 
-pub write-sizes : (s : Shape) (f : Allowed s) (p : Plan) → Planned s p → (v : ℕ) → v < p .lost .count → WriteSizes s (getD (p .lost .at) v 0)
+pub write-sizes : (s : Shape) (f : Allowed s) (p : System) → Posed s p → (v : ℕ) → v < p .lost .count → WriteSizes s (getD (p .lost .at) v 0)
 write-sizes s f p w v h =
     record { column = column-ends s f p w (getD (p .lost .at) v 0) (lost-position s f p w v h); most = f .stripe-length; small = f .parity-length }

@@ -2,7 +2,7 @@ pub mod Passed
 pub mod Outcome
 pub mod Slots
 pub mod Among
-pub mod Planned
+pub mod Posed
 pub mod Runs
 pub mod Settled
 pub mod Added

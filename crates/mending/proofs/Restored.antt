@@ -20,13 +20,13 @@ use Rattle.stripe.proofs.Allowed.{Allowed, allowed}
 use Rattle.stripe.proofs.Places.{place-lt, by-places, across-first, data-of-length, checks-codeword}
 use Rattle.stripe.proofs.Mended.{checkAt, wanted, wordAt, wanted-below, wanted-from, dataMended, data-mended-length, data-mended-at, mended-parity-below, mended-parity-from, parity-wanted, mended-agrees-exactly}
 use Rattle.stripe.proofs.Determined.{mendable}
-use Rattle.mending.specs.declared.plan.Plan.{Plan}
+use Rattle.mending.specs.declared.system.System.{System}
 use Rattle.lost.specs.Lost.{lostList, lostOf, capacity}
 use Rattle.lost.specs.Positions.{positions}
 use Rattle.mending.specs.Mend.{mendRefusal, Restored}
 use Rattle.mending.specs.Restore.{Ready}
-use Rattle.mending.specs.Plan.{lostIn, Planned}
-use Rattle.mending.specs.Scratch.{rowByte, AllFine, SettledBelow, Added}
+use Rattle.mending.specs.System.{lostIn, Posed}
+use Rattle.mending.specs.Scratch.{rowByte, AllFine, SettledBelow, MendedBelow}
 use Rattle.lost.proofs.Listed.{positions-length, lost-at}
 use Rattle.mending.proofs.Passed.{Passed, passed}
 use Rattle.mending.proofs.Settled.{all-fine}
@@ -35,7 +35,7 @@ use Rattle.mending.proofs.Added.{added-word, added-row, added-kept}
 cancel-from : (c w r : ℕ) → c ⊕ (c ⊕ w ⊕ r) ≡ r ⊕ w
 cancel-from c w r = simp sums
 
-module _ (s : Shape) (h : shapeRefusal s ≡ 0) (p : Plan) (w : Planned s p) (xs : List ℕ) (bytes : Bytes xs) where
+module _ (s : Shape) (h : shapeRefusal s ≡ 0) (p : System) (w : Posed s p) (xs : List ℕ) (bytes : Bytes xs) where
   facts : Allowed s
   facts = allowed s h
 
@@ -47,7 +47,7 @@ module _ (s : Shape) (h : shapeRefusal s ≡ 0) (p : Plan) (w : Planned s p) (xs
       mended-agrees-exactly s facts (lostIn p) (w .ascend) (w .fits) xs bytes .0 (mendable s h (lostIn p) (w .ascend) (w .fits) xs bytes .0 (zs, (r .codeword, r .agrees))) y hy j hj m)
 
   module _ (slots ys : List ℕ) (bs : Bytes slots) (by : Bytes ys) (long : length ys ≡ stripeLength s) (t : SettledBelow s p xs (s .r) slots)
-      (a : Added s p (p .lost .count) slots xs ys) where
+      (a : MendedBelow s p (p .lost .count) slots xs ys) where
     same-data : dataOf s ys ≡ dataMended s (lostIn p) xs
     same-data =
         by-places (s .k) (s .l) (dataOf s ys) (dataMended s (lostIn p) xs) (data-of-length s ys long) (data-mended-length s (lostIn p) xs)

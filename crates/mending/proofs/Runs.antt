@@ -24,12 +24,12 @@ use Rattle.stripe.proofs.Errors.{points, points-length, errorRow, errors-length
 use Rattle.stripe.proofs.Word.{wordErrors, wordMended, word-mended-row}
 use Rattle.stripe.proofs.Mended.{dataAt, checkAt, wanted, wanted-below, wanted-from, wordAt, wordBelow, word-below, wanted-lt}
 use Rattle.syndromes.specs.Syndromes.{Syndromes}
-use Rattle.mending.specs.declared.plan.Plan.{Plan}
+use Rattle.mending.specs.declared.system.System.{System}
 use Rattle.mending.specs.Slots.{weighted, Outside, Sources, Gathered, Spaced, Solved}
-use Rattle.mending.specs.Plan.{less, lostIn, gone, Other, Planned}
+use Rattle.mending.specs.System.{less, lostIn, gone, Other, Posed}
 use Rattle.mending.specs.Scratch.{rowByte, Lies, lackAt, errorsAt, HoldsErrors, Lacks, SolvedBelow, Carried}
 use Rattle.mending.proofs.Slots.{weighted-same}
-use Rattle.mending.proofs.Planned.{count-is, row-below, first-few, step-few, step-some, less-length, by-one, weighted-row, pivot-errors}
+use Rattle.mending.proofs.Posed.{count-is, row-below, first-few, step-few, step-some, less-length, by-one, weighted-row, pivot-errors}
 
 -- a place of another column, or outside n places from a on, is none of these places of column i
 pub place-off : (c i y a n l : ℕ) → y < l → a + n ≤ l → (c ≡ i → ⊥) ⊎ Outside a n y → Outside (i * l + a) n (c * l + y)
@@ -56,7 +56,7 @@ slot-place l first step b q v = omega arith
 regroup : (c d e f : ℕ) → c ⊕ (d ⊕ e) ⊕ f ≡ c ⊕ (e ⊕ f) ⊕ d
 regroup c d e f = simp sums
 
-module _ (s : Shape) (f : Allowed s) (p : Plan) (w : Planned s p) (xs : List ℕ) (bytes : Bytes xs) where
+module _ (s : Shape) (f : Allowed s) (p : System) (w : Posed s p) (xs : List ℕ) (bytes : Bytes xs) where
   -- a mended word's row is that of the word as it lies and of its errors
   pub word-row : (j y : ℕ) → row j (wordAt s (lostIn p) xs y) ≡ row j (dataAt s xs y) ⊕ errorRow j (gone s p) (errorsAt s p xs y)
   word-row j y =
@@ -178,7 +178,7 @@ module _ (s : Shape) (f : Allowed s) (p : Plan) (w : Planned s p) (xs : List ℕ
         rest j y hj h hy =
             ap (λ (z : ℕ). gpow (j * p .pivot) ⊗ z) (same j y hj hy (inr (omega (arith, next)))) ∙ t .rest j y hj (omega (arith, next)) hy
 
-pub runs-start : (s : Shape) (p : Plan) (xs ys : List ℕ) → Syndromes s (p .pivot) xs ys → SolvedBelow s p xs 0 ys
+pub runs-start : (s : Shape) (p : System) (xs ys : List ℕ) → Syndromes s (p .pivot) xs ys → SolvedBelow s p xs 0 ys
 runs-start s p xs ys h =
     record {
       long = h .long;
@@ -189,13 +189,14 @@ runs-start s p xs ys h =
 
 -- ---- what is carried, row by row
 
-pub carried-none : (s : Shape) (p : Plan) (b j : ℕ) (ys : List ℕ) → b < plainRuns s → Carried s p b j ys ys
+pub carried-none : (s : Shape) (p : System) (b j : ℕ) (ys : List ℕ) → b < plainRuns s → Carried s p b j ys ys
 carried-none s p b j ys h = record { long = refl; on = λ i q k hi hq. absurd (omega arith); off = λ i y hi hy o. refl }
 
-pub carried-start : (s : Shape) (p : Plan) (b : ℕ) (ys : List ℕ) → Carried s p b 0 ys ys
+pub carried-start : (s : Shape) (p : System) (b : ℕ) (ys : List ℕ) → Carried s p b 0 ys ys
 carried-start s p b ys = record { long = refl; on = λ i q k hi hq. absurd (omega arith); off = λ i y hi hy o. refl }
 
-module _ (s : Shape) (f : Allowed s) (p : Plan) (w : Planned s p) (b j m : ℕ) (hm : m ≡ runLength s) (hb : b < runs s) (from : plainRuns s ≤ b) (hj : j < s .r) where
+module _ (s : Shape) (f : Allowed s) (p : System) (w : Posed s p) (b j m : ℕ) (hm : m ≡ runLength s)
+    (hb : b < runs s) (from : plainRuns s ≤ b) (hj : j < s .r) where
   ends : (i : ℕ) → i ≤ b → i * runLength s + runLength s ≤ s .l
   ends i h =
       let l : i + 1 ≤ runs s = omega arith in omega (arith, f .cut, mul-le-mul-right (runLength s) l, add-mul i 1 (runLength s))
@@ -255,27 +256,28 @@ module _ (s : Shape) (f : Allowed s) (p : Plan) (w : Planned s p) (b j m : ℕ) 
               ∙ errors-kept j q v hj hq (omega (arith, points-length b (gone s p), count-is s f p w))
               ∙ ap (λ (z : ℕ). rowByte s xs (p .first + p .step * v) (z * runLength s + q)) (sym e)))
 
-      off : (i y : ℕ) → i < s .r → y < s .l → (b < plainRuns s) ⊎ ((j + 1 ≤ i) ⊎ Outside (b * runLength s) (runLength s) y) → rowByte s zs i y ≡ rowByte s xs i y
+      off : (i y : ℕ) → i < s .r → y < s .l → (b < plainRuns s) ⊎ ((j + 1 ≤ i) ⊎ Outside (b * runLength s) (runLength s) y)
+          → rowByte s zs i y ≡ rowByte s xs i y
       off i y hi hy (inl h) = absurd (omega arith)
       off i y hi hy (inr (inl h)) = kept i y hy (inl (λ e. omega arith)) ∙ t .off i y hi hy (inr (inl (omega arith)))
       off i y hi hy (inr (inr h)) = kept i y hy (inr h) ∙ t .off i y hi hy (inr (inr h))
 
 -- ---- sizes
 
-pub first-length : (s : Shape) (p : Plan) → Allowed s → Planned s p → p .first * s .l ≤ mostParityLength
+pub first-length : (s : Shape) (p : System) → Allowed s → Posed s p → p .first * s .l ≤ mostParityLength
 first-length s p f w = mul-le-mul {n₂ = mostParity} {m₂ = mostLength} (omega (arith, first-few s f p w)) (f .length-most)
 
-pub step-length : (s : Shape) (p : Plan) → Allowed s → Planned s p → p .step * s .l ≤ mostParityLength
+pub step-length : (s : Shape) (p : System) → Allowed s → Posed s p → p .step * s .l ≤ mostParityLength
 step-length s p f w = mul-le-mul {n₂ = mostParity} {m₂ = mostLength} (omega (arith, step-few s f p w)) (f .length-most)
 
-pub record Sizes (s : Shape) (p : Plan) (b j m : ℕ) : Type 0 where
+pub record Sizes (s : Shape) (p : System) (b j m : ℕ) : Type 0 where
   pub row : j * s .l ≤ mostParityLength
   pub run : b * m ≤ mostParityLength
   pub first : p .first * s .l ≤ mostParityLength
   pub like : j * m ≤ mostParityLength
   pub step : p .step * s .l ≤ mostParityLength
 
-pub sizes : (s : Shape) (p : Plan) (b j m : ℕ) → Allowed s → Planned s p → m ≡ runLength s → b < runs s → j < s .r → Sizes s p b j m
+pub sizes : (s : Shape) (p : System) (b j m : ℕ) → Allowed s → Posed s p → m ≡ runLength s → b < runs s → j < s .r → Sizes s p b j m
 sizes s p b j m f w hm hb hj =
     record {
       row = mul-le-mul {n₂ = mostParity} {m₂ = mostLength} (omega (arith, f .parity-most)) (f .length-most);
@@ -289,7 +291,7 @@ sizes s p b j m f w hm hb hj =
     short = omega (arith, f .run-most, f .length-most)
 
 -- the slots of a run
-pub run-spaced : (s : Shape) (p : Plan) (b m len : ℕ) → Allowed s → Planned s p → m ≡ runLength s → b < runs s → len ≡ parityLength s
+pub run-spaced : (s : Shape) (p : System) (b m len : ℕ) → Allowed s → Posed s p → m ≡ runLength s → b < runs s → len ≡ parityLength s
     → Spaced (p .count) (p .first * s .l + b * m) (p .step * s .l) m len
 run-spaced s p b m len f w hm hb long =
     record {
@@ -307,11 +309,11 @@ run-spaced s p b m len f w hm hb long =
 
 -- the run as it was solved, by the lengths and the powers that the function has
 -- one run more is solved
-pub record RunSolved (s : Shape) (p : Plan) (b : ℕ) (ys zs : List ℕ) : Type 0 where
+pub record RunSolved (s : Shape) (p : System) (b : ℕ) (ys zs : List ℕ) : Type 0 where
   pub long : length zs ≡ length ys
   pub more : (xs : List ℕ) → Bytes xs → SolvedBelow s p xs b ys → SolvedBelow s p xs (b + 1) zs
 
-pub run-solved : (s : Shape) (f : Allowed s) (p : Plan) (w : Planned s p) (b m : ℕ) (bs ws ys us zs : List ℕ) → m ≡ runLength s → b < runs s → Bytes ys → Bytes us
+pub run-solved : (s : Shape) (f : Allowed s) (p : System) (w : Posed s p) (b m : ℕ) (bs ws ys us zs : List ℕ) → m ≡ runLength s → b < runs s → Bytes ys → Bytes us
     → bs ≡ points (p .step) (less (p .pivot) (gone s p)) → ws ≡ points (p .first) (less (p .pivot) (gone s p))
     → Carried s p b (s .r) ys us → Solved bs ws (p .first * s .l + b * m) (p .step * s .l) m us zs → RunSolved s p b ys zs
 run-solved s f p w b m bs ws ys us zs hm hb by bu eb ew c g =
@@ -322,6 +324,6 @@ run-solved s f p w b m bs ws ys us zs hm hb by bu eb ew c g =
         (subst (λ (l : List ℕ). Solved (points (p .step) (less (p .pivot) (gone s p))) l (p .first * s .l + b * m) (p .step * s .l) m us zs) ew
         (subst (λ (l : List ℕ). Solved l ws (p .first * s .l + b * m) (p .step * s .l) m us zs) eb g))
 
-pub powers-length : (s : Shape) (f : Allowed s) (p : Plan) (w : Planned s p) (j : ℕ) (bs : List ℕ) → bs ≡ points j (less (p .pivot) (gone s p)) → length bs ≡ p .count
+pub powers-length : (s : Shape) (f : Allowed s) (p : System) (w : Posed s p) (j : ℕ) (bs : List ℕ) → bs ≡ points j (less (p .pivot) (gone s p)) → length bs ≡ p .count
 powers-length s f p w j bs e =
     ap length e ∙ points-length j (less (p .pivot) (gone s p)) ∙ less-length (p .pivot) (gone s p) ∙ sym (count-is s f p w)

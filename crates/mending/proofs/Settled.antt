@@ -29,17 +29,17 @@ use Rattle.stripe.proofs.Lost.{rowLost}
 use Rattle.stripe.proofs.Errors.{points, mended-row}
 use Rattle.stripe.proofs.Word.{wordMended}
 use Rattle.stripe.proofs.Mended.{dataAt, wanted, wanted-lt}
-use Rattle.mending.specs.declared.plan.Plan.{Plan}
+use Rattle.mending.specs.declared.system.System.{System}
 use Rattle.mending.specs.Slots.{Outside, Sources, Gathered}
-use Rattle.mending.specs.Plan.{less, lostIn, gone, Solver, Other, Planned}
+use Rattle.mending.specs.System.{less, lostIn, gone, Solver, Other, Posed}
 use Rattle.syndromes.specs.Syndromes.{Says}
 use Rattle.mending.specs.Scratch.{rowByte, errorsAt, StillLacks, Fine, AllFine, SolvedBelow, SettledBelow, RowSettles}
-use Rattle.mending.proofs.Planned.{count-is, less-length, row-below, pivot-row, pivot-gone, power-zero-only, weighted-row, ordered, spread}
+use Rattle.mending.proofs.Posed.{count-is, less-length, row-below, pivot-row, pivot-gone, power-zero-only, weighted-row, ordered, spread}
 use Rattle.mending.proofs.Runs.{place-off, errors-long, word-is, word-row, slot-place}
 
 -- ---- which rows are solved by
 
-pub solver-turn : (p : Plan) (j v : ℕ) → ((u : ℕ) → u < v → p .first + p .step * u ≡ j → ⊥) → (p .first + p .step * v ≡ j → ⊥)
+pub solver-turn : (p : System) (j v : ℕ) → ((u : ℕ) → u < v → p .first + p .step * u ≡ j → ⊥) → (p .first + p .step * v ≡ j → ⊥)
     → (u : ℕ) → u < v + 1 → p .first + p .step * u ≡ j → ⊥
 solver-turn p j v h n u l e = go (below-or-from u v)
   where
@@ -47,7 +47,7 @@ solver-turn p j v h n u l e = go (below-or-from u v)
     go (inl m) = h u m e
     go (inr m) = let q : u ≡ v = omega arith in n (ap (λ (x : ℕ). p .first + p .step * x) (sym q) ∙ e)
 
-solver-below : (p : Plan) (j e : ℕ) → ((v : ℕ) × ((v < e) × (p .first + p .step * v ≡ j))) ⊎ ((v : ℕ) → v < e → p .first + p .step * v ≡ j → ⊥)
+solver-below : (p : System) (j e : ℕ) → ((v : ℕ) × ((v < e) × (p .first + p .step * v ≡ j))) ⊎ ((v : ℕ) → v < e → p .first + p .step * v ≡ j → ⊥)
 solver-below p j zero = inr (λ v h q. omega arith)
 solver-below p j (suc e) = pick (solver-below p j e) (eqb (p .first + p .step * e) j) refl
   where
@@ -58,7 +58,7 @@ solver-below p j (suc e) = pick (solver-below p j e) (eqb (p .first + p .step * 
     pick (inr n) true q = inl (e, (omega arith, eqb-true _ _ q))
     pick (inr n) false q = inr (λ v l. solver-turn p j e n (eqb-false _ _ q) v (omega arith))
 
-pub solver-or-other : (p : Plan) (j : ℕ) → Solver p j ⊎ Other p j
+pub solver-or-other : (p : System) (j : ℕ) → Solver p j ⊎ Other p j
 solver-or-other p j = go (solver-below p j (p .count))
   where
     go : Solver p j ⊎ ((v : ℕ) → v < p .count → p .first + p .step * v ≡ j → ⊥) → Solver p j ⊎ Other p j
@@ -67,7 +67,7 @@ solver-or-other p j = go (solver-below p j (p .count))
 
 -- ---- row by row
 
-pub settled-start : (s : Shape) (p : Plan) (xs ys : List ℕ) → Allowed s → SolvedBelow s p xs (runs s) ys → SettledBelow s p xs 0 ys
+pub settled-start : (s : Shape) (p : System) (xs ys : List ℕ) → Allowed s → SolvedBelow s p xs (runs s) ys → SettledBelow s p xs 0 ys
 settled-start s p xs ys f t =
     record {
       long = t .long;
@@ -78,7 +78,7 @@ settled-start s p xs ys f t =
     }
 
 -- a row that is solved by
-pub settled-skip : (s : Shape) (p : Plan) (xs ys : List ℕ) (j : ℕ) → Solver p j → SettledBelow s p xs j ys → SettledBelow s p xs (j + 1) ys
+pub settled-skip : (s : Shape) (p : System) (xs ys : List ℕ) (j : ℕ) → Solver p j → SettledBelow s p xs j ys → SettledBelow s p xs (j + 1) ys
 settled-skip s p xs ys j w t =
     record {
       long = t .long;
@@ -95,11 +95,11 @@ settled-skip s p xs ys j w t =
         go (inl l) = l
         go (inr l) = let e : j ≡ i = omega arith in absurd (o (subst (Solver p) e w))
 
-pub skip-settles : (s : Shape) (p : Plan) (j : ℕ) (ys : List ℕ) → Solver p j → RowSettles s p j ys true ys
+pub skip-settles : (s : Shape) (p : System) (j : ℕ) (ys : List ℕ) → Solver p j → RowSettles s p j ys true ys
 skip-settles s p j ys w =
     record { long = refl; so = λ xs bytes t e. settled-skip s p xs ys j w t; not-so = λ xs bytes t e. absurd (true≢false e) }
 
-module _ (s : Shape) (f : Allowed s) (p : Plan) (w : Planned s p) (j : ℕ) (hj : j < s .r) (o : Other p j) (ys zs : List ℕ)
+module _ (s : Shape) (f : Allowed s) (p : System) (w : Posed s p) (j : ℕ) (hj : j < s .r) (o : Other p j) (ys zs : List ℕ)
     (g : Gathered (points j (less (p .pivot) (gone s p))) (j * s .l) (p .first * s .l) (p .step * s .l) (s .l) ys zs) where
   kept : (i y : ℕ) → (i ≡ j → ⊥) → y < s .l → rowByte s zs i y ≡ rowByte s ys i y
   kept i y n hy =
@@ -169,7 +169,7 @@ module _ (s : Shape) (f : Allowed s) (p : Plan) (w : Planned s p) (j : ℕ) (hj 
 -- ---- what the functions say of each other
 
 -- the rows solved by stand outside row j
-pub finish-sources : (s : Shape) (f : Allowed s) (p : Plan) (w : Planned s p) (j : ℕ) → j < s .r → Other p j → (len : ℕ) → len ≡ parityLength s
+pub finish-sources : (s : Shape) (f : Allowed s) (p : System) (w : Posed s p) (j : ℕ) → j < s .r → Other p j → (len : ℕ) → len ≡ parityLength s
     → Sources (p .count) (j * s .l) (p .first * s .l) (p .step * s .l) (s .l) len
 finish-sources s f p w j hj o len long =
     record {
@@ -193,13 +193,13 @@ clean-says xs j l b v fits e z =
       not-so = λ t all. zero-not _ (sym z ∙ t) (λ q h. let k : q < l = omega (arith, part-length xs (j * l) l fits) in part-at xs (j * l) l q k ∙ all e q k);
     }
 
-pub settled-all : (s : Shape) (p : Plan) (xs ys : List ℕ) (j : ℕ) → j ≤ s .r → s .r ≤ j → SettledBelow s p xs j ys → SettledBelow s p xs (s .r) ys
+pub settled-all : (s : Shape) (p : System) (xs ys : List ℕ) (j : ℕ) → j ≤ s .r → s .r ≤ j → SettledBelow s p xs j ys → SettledBelow s p xs (s .r) ys
 settled-all s p xs ys j h k t = let e : j ≡ s .r = omega arith in subst (λ (x : ℕ). SettledBelow s p xs x ys) e t
 
 -- ---- all rows
 
 -- the rows solved by have the values wanted
-solved-rows : (s : Shape) (f : Allowed s) (p : Plan) (w : Planned s p) (xs : List ℕ) (y : ℕ) → Bytes xs → (v : ℕ) → v < p .count
+solved-rows : (s : Shape) (f : Allowed s) (p : System) (w : Posed s p) (xs : List ℕ) (y : ℕ) → Bytes xs → (v : ℕ) → v < p .count
     → row (firstRow (rowLost (s .k) (lostIn p)) + rowStep (rowLost (s .k) (lostIn p)) * v) (wordMended (s .k) (lostIn p) (dataAt s xs y) (wanted s (lostIn p) xs y))
     ≡ wanted s (lostIn p) xs y (firstRow (rowLost (s .k) (lostIn p)) + rowStep (rowLost (s .k) (lostIn p)) * v)
 unfolding wordMended
@@ -207,7 +207,7 @@ solved-rows s f p w xs y bytes v hv =
     mended-row _ _ (s .k) (gone s p) (spread s f p w .step-some) (spread s f p w .step-most) (f .data-most) (ordered s f p w) (dataAt s xs y)
     (across-length xs (s .l) y 0 (s .k)) (wanted s (lostIn p) xs y) (λ j. wanted-lt s (lostIn p) xs y j bytes) v (omega (arith, count-is s f p w))
 
-pub all-fine : (s : Shape) (f : Allowed s) (p : Plan) (w : Planned s p) (xs ys : List ℕ) → Bytes xs → SettledBelow s p xs (s .r) ys → AllFine s (lostIn p) xs
+pub all-fine : (s : Shape) (f : Allowed s) (p : System) (w : Posed s p) (xs ys : List ℕ) → Bytes xs → SettledBelow s p xs (s .r) ys → AllFine s (lostIn p) xs
 all-fine s f p w xs ys bytes t j y hj hy m = go (solver-or-other p j)
   where
     go : Solver p j ⊎ Other p j → Fine s (lostIn p) xs j y

@@ -1,5 +1,5 @@
 pub mod Mend
 pub mod Slots
 pub mod Restore
-pub mod Plan
+pub mod System
 pub mod Scratch

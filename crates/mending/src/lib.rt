@@ -1,17 +1,17 @@
 // Mending: the lost columns of a stripe restored, or refused where no codeword agrees with the columns that survive.
 // Nothing is written before everything is judged.
 mod gather;
-mod plan;
 mod run;
 mod scalars;
 mod settle;
 mod solve;
 mod survivors;
+mod system;
 mod write;
 
-use crate::plan::plan_of;
 use crate::run::solve_runs;
 use crate::settle::settle;
+use crate::system::system_of;
 use crate::write::write;
 use checking::Wrong;
 use checking::first_wrong;
@@ -109,7 +109,7 @@ fn restore_rows(s: Shape, lost: Lost, stripe: &mut [u8], slots: &mut [u8]) -> u3
     requires { ⌜ Ready s lost × ((length (now stripe) ≡ stripeLength s) × (length (now slots) ≡ parityLength s)) ⌝ }
     ensures { λ v. ⌜ Restores s (lostList lost) (now (stripe .entry)) v (now (stripe .exit)) ⌝ }
 {
-    let p = plan_of(s, lost);
+    let p = system_of(s, lost);
     syndromes(s, p.pivot, stripe, slots);
     solve_runs(s, p, slots);
     if !settle(s, p, slots) {

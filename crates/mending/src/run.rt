@@ -1,8 +1,8 @@
 // Run by run, the errors of the lost data columns in place of what the rows to solve by lack.
 use crate::gather::gather;
-use crate::plan::Plan;
-use crate::plan::row_weights;
 use crate::solve::solve_slots;
+use crate::system::System;
+use crate::system::row_weights;
 use stripe::Shape;
 ghost use mathlib.Core.Path.{_≡_};
 ghost use Prim.Native.Nat.{_+_, _*_, _≤_, _<_};
@@ -11,11 +11,11 @@ ghost use Rattle.stripe.specs.Shape.{mostParity, mostParityLength};
 ghost use Rattle.stripe.specs.Stripe.{runs, runLength};
 ghost use Rattle.stripe.proofs.Errors.{points as powers};
 ghost use Rattle.mending.specs.Slots.{Sources, Gathered};
-ghost use Rattle.mending.specs.Plan.{less, gone};
+ghost use Rattle.mending.specs.System.{less, gone};
 ghost use Rattle.mending.specs.Scratch.{Buffers, Carried, RunsSolved};
 
 // All runs from the first on.
-pub(crate) fn solve_runs(s: Shape, p: Plan, slots: &mut [u8])
+pub(crate) fn solve_runs(s: Shape, p: System, slots: &mut [u8])
     requires { ⌜ Buffers s p (length (now slots)) ⌝ }
     ensures { λ _. ⌜ RunsSolved s p (now (slots .entry)) (now (slots .exit)) ⌝ }
 {
@@ -36,7 +36,7 @@ pub(crate) fn solve_runs(s: Shape, p: Plan, slots: &mut [u8])
 }
 
 // To each row of a run b >= r, row b of the errors of the run that its piggyback comes from.
-fn carry(s: Shape, m: usize, p: Plan, b: usize, slots: &mut [u8])
+fn carry(s: Shape, m: usize, p: System, b: usize, slots: &mut [u8])
     requires { ⌜ Buffers s p (length (now slots)) × ((m ≡ runLength s) × (b < runs s)) ⌝ }
     ensures { λ _. ⌜ Carried s p b (s .r) (now (slots .entry)) (now (slots .exit)) ⌝ }
 {
@@ -55,7 +55,7 @@ fn carry(s: Shape, m: usize, p: Plan, b: usize, slots: &mut [u8])
 // To the n bytes from `to` on, row j of the errors at the n places from `off` on, whose positions count from x on.
 pub(crate) fn add_row(
     s: Shape,
-    p: Plan,
+    p: System,
     x: usize,
     j: usize,
     slots: &mut [u8],

@@ -1,7 +1,7 @@
 // The rows that are not solved by: with the errors added, one that survives must lack nothing, and one that is lost holds what it lacks.
-use crate::plan::Plan;
 use crate::run::add_row;
 use crate::survivors::is_lost;
+use crate::system::System;
 use lanes::all_zero;
 use stripe::Shape;
 ghost use mathlib.Core.Path.{_≡_};
@@ -12,11 +12,11 @@ ghost use Rattle.stripe.specs.Stripe.{among};
 ghost use Rattle.stripe.specs.Shape.{mostData, mostRows, mostParity};
 ghost use Rattle.lost.specs.Lost.{lostList, capacity};
 ghost use Rattle.syndromes.specs.Syndromes.{Says};
-ghost use Rattle.mending.specs.Plan.{Solver};
+ghost use Rattle.mending.specs.System.{Solver};
 ghost use Rattle.mending.specs.Scratch.{Buffers, Settles, RowSettles};
 
 // Whether each row that survives lacks nothing.
-pub(crate) fn settle(s: Shape, p: Plan, slots: &mut [u8]) -> bool
+pub(crate) fn settle(s: Shape, p: System, slots: &mut [u8]) -> bool
     requires { ⌜ Buffers s p (length (now slots)) ⌝ }
     ensures { λ v. ⌜ Settles s p (now (slots .entry)) v (now (slots .exit)) ⌝ }
 {
@@ -32,7 +32,7 @@ pub(crate) fn settle(s: Shape, p: Plan, slots: &mut [u8]) -> bool
 }
 
 // Whether row j is one of those solved by, or is lost, or lacks nothing.
-fn settle_row(s: Shape, p: Plan, j: usize, slots: &mut [u8]) -> bool
+fn settle_row(s: Shape, p: System, j: usize, slots: &mut [u8]) -> bool
     requires { ⌜ Buffers s p (length (now slots)) × (j < s .r) ⌝ }
     ensures { λ v. ⌜ RowSettles s p j (now (slots .entry)) v (now (slots .exit)) ⌝ }
 {
@@ -45,7 +45,7 @@ fn settle_row(s: Shape, p: Plan, j: usize, slots: &mut [u8]) -> bool
 }
 
 // Whether row j is one of those solved by.
-fn solves(p: Plan, j: usize) -> bool
+fn solves(p: System, j: usize) -> bool
     requires { ⌜ (p .count ≤ capacity) × ((p .first ≤ mostRows) × (p .step ≤ mostRows)) ⌝ }
     ensures { λ v. ⌜ Says v (Solver p j) ⌝ }
 {
@@ -60,7 +60,7 @@ fn solves(p: Plan, j: usize) -> bool
 }
 
 // Whether row j is lost or zero.
-fn clean(s: Shape, p: Plan, j: usize, slots: &[u8]) -> bool
+fn clean(s: Shape, p: System, j: usize, slots: &[u8]) -> bool
     requires { ⌜ (p .lost .count ≤ capacity) × ((s .k ≤ mostData) × ((j < mostParity) × (j * s .l + s .l ≤ length (now slots)))) ⌝ }
     ensures { λ v. ⌜ Says v (among (s .k + j) (lostList (p .lost)) ≡ false → (y : ℕ) → y < s .l → getD (now (slots .entry)) (j * s .l + y) 0 ≡ 0) ⌝ }
 {

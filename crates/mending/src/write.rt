@@ -1,18 +1,18 @@
 // The lost columns, each plus what it lacks.
-use crate::plan::Plan;
+use crate::system::System;
 use lanes::add;
 use stripe::Shape;
 ghost use mathlib.Core.Path.{_≡_};
 ghost use Prim.Native.Nat.{_≤_};
 ghost use lib.ListN.{length};
 ghost use Rattle.stripe.specs.Shape.{stripeLength, mostRows};
-ghost use Rattle.mending.specs.Scratch.{Buffers, slotRow, Added};
+ghost use Rattle.mending.specs.Scratch.{Buffers, slotRow, MendedBelow};
 ghost use Rattle.lost.specs.Lost.{capacity};
 
 // To each lost column the row of the slots that holds what it lacks.
-pub(crate) fn write(s: Shape, p: Plan, slots: &[u8], stripe: &mut [u8])
+pub(crate) fn write(s: Shape, p: System, slots: &[u8], stripe: &mut [u8])
     requires { ⌜ Buffers s p (length (now slots)) × (length (now stripe) ≡ stripeLength s) ⌝ }
-    ensures { λ _. ⌜ Added s p (p .lost .count) (now (slots .entry)) (now (stripe .entry)) (now (stripe .exit)) ⌝ }
+    ensures { λ _. ⌜ MendedBelow s p (p .lost .count) (now (slots .entry)) (now (stripe .entry)) (now (stripe .exit)) ⌝ }
 {
     let l = s.l;
     let lost = p.lost;
@@ -30,7 +30,7 @@ pub(crate) fn write(s: Shape, p: Plan, slots: &[u8], stripe: &mut [u8])
 }
 
 // The row of the slots for lost column v, at position i.
-fn slot_row(s: Shape, p: Plan, v: usize, i: usize) -> usize
+fn slot_row(s: Shape, p: System, v: usize, i: usize) -> usize
     requires { ⌜ (p .first ≤ mostRows) × ((p .step ≤ mostRows) × ((v ≤ capacity) × (p .count ≤ v → s .k ≤ i))) ⌝ }
     ensures { λ x. ⌜ x ≡ slotRow s p v i ⌝ }
 {

@@ -17,7 +17,7 @@ use Rattle.lanes.specs.Lanes.{onto}
 use Rattle.lanes.proofs.Onto.{onto-at, onto-past, onto-length}
 use Rattle.lanes.proofs.Parts.{part-length, part-at, back-length, back-inside, back-outside}
 use Rattle.stripe.specs.Stripe.{across}
-use Rattle.rows.specs.Rows.{RowIn, Added, runFits, rowFrom, added}
+use Rattle.rows.specs.Rows.{RowIn, Added, runFits, rowPart, added}
 
 -- what the sum of a part and a block leaves of the whole
 pub added-block : (xs : List ℕ) (k l j from at n : ℕ) (ps b ys : List ℕ) → at + n ≤ length ps → n ≤ length b → RowIn xs k l from n j b
@@ -63,17 +63,17 @@ added-all xs k l j from b w ps qs e h = subst (λ (x : ℕ). Added xs k l j from
 -- ---- the run as one list
 
 module _ (xs : List ℕ) (k l j from : ℕ) where
-  from-length : (n : ℕ) → length (rowFrom xs k l j from n) ≡ n
-  unfolding rowFrom
+  from-length : (n : ℕ) → length (rowPart xs k l j from n) ≡ n
+  unfolding rowPart
   from-length n = tabulate-length n _
 
-  from-at : (n q : ℕ) → q < n → getD (rowFrom xs k l j from n) q 0 ≡ row j (across xs l (from + q) 0 k)
-  unfolding rowFrom
+  from-at : (n q : ℕ) → q < n → getD (rowPart xs k l j from n) q 0 ≡ row j (across xs l (from + q) 0 k)
+  unfolding rowPart
   from-at n q h = tabulate-at n _ q h
 
   module _ (ps : List ℕ) where
     abbrev sum : List ℕ
-    sum = onto (λ (x y : ℕ). x ⊕ y) ps (rowFrom xs k l j from (length ps))
+    sum = onto (λ (x y : ℕ). x ⊕ y) ps (rowPart xs k l j from (length ps))
 
     sum-at : (q : ℕ) → q < length ps → getD sum q 0 ≡ getD ps q 0 ⊕ row j (across xs l (from + q) 0 k)
     sum-at q h =

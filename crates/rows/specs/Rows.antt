@@ -30,8 +30,8 @@ unfoldable pub rowsOf : List ℕ → ℕ → ℕ → ℕ → List ℕ
 rowsOf xs k l r = tabulate (r * l) (λ n. row (n / l) (across xs l (n % l) 0 k))
 
 -- row j of the k columns at the n places from `from` on
-unfoldable pub rowFrom : List ℕ → ℕ → ℕ → ℕ → ℕ → ℕ → List ℕ
-rowFrom xs k l j from n = tabulate n (λ q. row j (across xs l (from + q) 0 k))
+unfoldable pub rowPart : List ℕ → ℕ → ℕ → ℕ → ℕ → ℕ → List ℕ
+rowPart xs k l j from n = tabulate n (λ q. row j (across xs l (from + q) 0 k))
 
 -- what a buffer holds that the rows were filled into, and a run that a row was added to: what it held, where the numbers do not fit
 unfoldable pub filled : List ℕ → ℕ → ℕ → ℕ → List ℕ → List ℕ
@@ -39,7 +39,7 @@ filled xs k l r ps = cond (rowsFit (length xs) k l r (length ps)) (rowsOf xs k l
 
 unfoldable pub added : List ℕ → ℕ → ℕ → ℕ → ℕ → List ℕ → List ℕ
 added xs k l j from ps =
-    cond (runFits (length xs) k l j from (length ps)) (onto (λ (x y : ℕ). x ⊕ y) ps (rowFrom xs k l j from (length ps))) ps
+    cond (runFits (length xs) k l j from (length ps)) (onto (λ (x y : ℕ). x ⊕ y) ps (rowPart xs k l j from (length ps))) ps
 
 -- a step of row j, of the first three: g^j times the first, and the second
 unfoldable pub stepOf : ℕ → ℕ → ℕ → ℕ

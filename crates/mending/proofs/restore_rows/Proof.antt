@@ -10,20 +10,20 @@ use Rattle.stripe.specs.Shape.{parityLength, stripeLength}
 use Rattle.syndromes.specs.Syndromes.{Lent}
 use Rattle.lost.specs.declared.Lost.{Lost}
 use Rattle.mending.specs.Mend.{Restored}
-use Rattle.mending.specs.declared.plan.Plan.{Plan}
+use Rattle.mending.specs.declared.system.System.{System}
 use Rattle.lost.specs.Lost.{lostList}
 use Rattle.mending.specs.Restore.{Ready}
-use Rattle.mending.specs.Plan.{Planned}
+use Rattle.mending.specs.System.{Posed}
 use Rattle.mending.proofs.Restored.{none-restored, restored}
 use Rattle.mending.proofs.restore_rows.Statement.{statement}
 use Rattle.mending.proofs.restore_rows.Tie as tie
 
 -- the stripe, the rows and the pivot are as `syndromes` wants them
-lent : (s : Shape) (l : Lost) (p : Plan) (d n : ℕ) → Ready s l → Planned s p → d ≡ stripeLength s → n ≡ parityLength s → Lent s (p .pivot) d n
+lent : (s : Shape) (l : Lost) (p : System) (d n : ℕ) → Ready s l → Posed s p → d ≡ stripeLength s → n ≡ parityLength s → Lent s (p .pivot) d n
 lent s l p d n r w hd hn = record { shape = r .shape; long = hd; room = hn; apart = w .pivot-apart }
 
-plan-of-requires : tie.Need-plan-of-requires
-plan-of-requires c κs = search needs
+system-of-requires : tie.Need-system-of-requires
+system-of-requires c κs = search needs
 
 syndromes-requires : tie.Need-syndromes-requires
 syndromes-requires c κs = search needs
@@ -31,15 +31,15 @@ syndromes-requires c κs = search needs
 solve-runs-requires : tie.Need-solve-runs-requires
 solve-runs-requires c κs =
     let w = c .before .before .before .before .before .before .before .before .before .pre in
-    let p = c .before .before .before .before .before .before .plan-of in
+    let p = c .before .before .before .before .before .before .system-of in
     let sy = c .before .before .before .syndromes .ensures .lent (lent _ _ _ _ _ (w .0) (p .ensures .1) (w .1 .0) (w .1 .1)) in
-    record { shape = w .0 .shape; plan = p .ensures .1; long = sy .long }
+    record { shape = w .0 .shape; posed = p .ensures .1; long = sy .long }
 
 settle-requires : tie.Need-settle-requires
 settle-requires c κs =
     let w = c .before .before .before .before .before .before .before .before .before .before .before .before .before .pre in
     let r = c .before .before .before .solve-runs .ensures in
-    record { shape = w .0 .shape; plan = c .before .before .before .before .before .before .before .before .before .before .plan-of .ensures .1; long = r .long ∙ c .before .before .before .before .before .before .before .syndromes .ensures .lent (lent _ _ _ _ _ (w .0) (c .before .before .before .before .before .before .before .before .before .before .plan-of .ensures .1) (w .1 .0) (w .1 .1)) .long }
+    record { shape = w .0 .shape; posed = c .before .before .before .before .before .before .before .before .before .before .system-of .ensures .1; long = r .long ∙ c .before .before .before .before .before .before .before .syndromes .ensures .lent (lent _ _ _ _ _ (w .0) (c .before .before .before .before .before .before .before .before .before .before .system-of .ensures .1) (w .1 .0) (w .1 .1)) .long }
 
 same-length : tie.Need-same-length
 same-length c = search needs
@@ -51,7 +51,7 @@ returns : tie.Need-returns
 returns c =
     let a = c .before .before .before .before .before .before .before .before .before .before .before .before .before .before .before .before .before .args in
     let w = c .before .before .before .before .before .before .before .before .before .before .before .before .before .before .before .before .before .pre in
-    let p = c .before .before .before .before .before .before .before .before .before .before .before .before .before .before .plan-of in
+    let p = c .before .before .before .before .before .before .before .before .before .before .before .before .before .before .system-of in
     let bytes : Bytes (a .stripe .now) = λ i. c .before .before .before .before .before .before .before .before .before .before .before .before .before .before .before .before .slice-known .given i .fits in
     let sy = c .before .before .before .before .before .before .before .before .before .before .before .syndromes .ensures .lent (lent _ _ _ _ _ (w .0) (p .ensures .1) (w .1 .0) (w .1 .1)) in
     inr (
@@ -70,8 +70,8 @@ write-requires c κs =
     let w = c .before .before .before .before .before .before .before .before .before .before .before .before .before .before .before .before .before .before .before .pre in (
       record {
         shape = w .0 .shape;
-        plan = c .before .before .before .before .before .before .before .before .before .before .before .before .before .before .before .before .plan-of .ensures .1;
-        long = c .before .before .before .before .before .settle .ensures .long ∙ c .before .before .before .before .before .before .before .before .before .solve-runs .ensures .long ∙ c .before .before .before .before .before .before .before .before .before .before .before .before .before .syndromes .ensures .lent (lent _ _ _ _ _ (w .0) (c .before .before .before .before .before .before .before .before .before .before .before .before .before .before .before .before .plan-of .ensures .1) (w .1 .0) (w .1 .1)) .long;
+        posed = c .before .before .before .before .before .before .before .before .before .before .before .before .before .before .before .before .system-of .ensures .1;
+        long = c .before .before .before .before .before .settle .ensures .long ∙ c .before .before .before .before .before .before .before .before .before .solve-runs .ensures .long ∙ c .before .before .before .before .before .before .before .before .before .before .before .before .before .syndromes .ensures .lent (lent _ _ _ _ _ (w .0) (c .before .before .before .before .before .before .before .before .before .before .before .before .before .before .before .before .system-of .ensures .1) (w .1 .0) (w .1 .1)) .long;
       },
       w .1 .0,
     )
@@ -86,7 +86,7 @@ returns-2 : tie.Need-returns-2
 returns-2 c =
     let a = c .before .before .before .before .before .before .before .before .before .before .before .before .before .before .before .before .before .before .before .before .before .before .args in
     let w = c .before .before .before .before .before .before .before .before .before .before .before .before .before .before .before .before .before .before .before .before .before .before .pre in
-    let p = c .before .before .before .before .before .before .before .before .before .before .before .before .before .before .before .before .before .before .before .plan-of in
+    let p = c .before .before .before .before .before .before .before .before .before .before .before .before .before .before .before .before .before .before .before .system-of in
     let bytes : Bytes (a .stripe .now) = λ i. c .before .before .before .before .before .before .before .before .before .before .before .before .before .before .before .before .before .before .before .before .before .slice-known .given i .fits in
     let sy = c .before .before .before .before .before .before .before .before .before .before .before .before .before .before .before .before .syndromes .ensures .lent (lent _ _ _ _ _ (w .0) (p .ensures .1) (w .1 .0) (w .1 .1)) in
     let k = c .before .before .before .before .before .before .before .before .settle in
@@ -103,7 +103,7 @@ pub restore-rows-spec : {M : Type 1} → statement M
 restore-rows-spec =
     tie.close
     (tie.spec
-    plan-of-requires
+    system-of-requires
     syndromes-requires
     solve-runs-requires
     settle-requires

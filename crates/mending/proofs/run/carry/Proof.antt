@@ -6,7 +6,7 @@ use native.Mathlib.Omega.{arith}
 use Rattle.mending.specs.Scratch.{Carried}
 use Rattle.stripe.proofs.Allowed.{allowed}
 use Rattle.stripe.proofs.Errors.{points}
-use Rattle.mending.proofs.Planned.{less-zero}
+use Rattle.mending.proofs.Posed.{less-zero}
 use Rattle.mending.proofs.Runs.{sizes, carry-sources, carried-none, carried-start, carried-turn}
 use Rattle.mending.proofs.run.carry.Statement.{statement}
 use Rattle.mending.proofs.run.carry.Tie as tie
@@ -24,16 +24,16 @@ loop-holds : tie.Need-loop-holds Inv-loop μ-loop
 loop-holds c = (omega arith, carried-start (c .before .before .args .s) (c .before .before .args .p) _ _)
 
 mul-add-row : tie.Need-mul-add-row Inv-loop μ-loop
-mul-add-row c = let w = c .before .before .before .before .before .pre in let z = sizes (c .before .before .before .before .before .args .s) (c .before .before .before .before .before .args .p) (c .before .before .before .before .before .args .b) (c .before .before .loop .j) (c .before .before .before .before .before .args .m) (allowed (c .before .before .before .before .before .args .s) (w .0 .shape)) (w .0 .plan) (w .1 .0) (w .1 .1) (c .before .loop-test .taken) in omega (arith, z .row)
+mul-add-row c = let w = c .before .before .before .before .before .pre in let z = sizes (c .before .before .before .before .before .args .s) (c .before .before .before .before .before .args .p) (c .before .before .before .before .before .args .b) (c .before .before .loop .j) (c .before .before .before .before .before .args .m) (allowed (c .before .before .before .before .before .args .s) (w .0 .shape)) (w .0 .posed) (w .1 .0) (w .1 .1) (c .before .loop-test .taken) in omega (arith, z .row)
 
 mul-add-row-2 : tie.Need-mul-add-row-2 Inv-loop μ-loop
-mul-add-row-2 c = let w = c .before .before .before .before .before .pre in let z = sizes (c .before .before .before .before .before .args .s) (c .before .before .before .before .before .args .p) (c .before .before .before .before .before .args .b) (c .before .before .loop .j) (c .before .before .before .before .before .args .m) (allowed (c .before .before .before .before .before .args .s) (w .0 .shape)) (w .0 .plan) (w .1 .0) (w .1 .1) (c .before .loop-test .taken) in omega (arith, z .run)
+mul-add-row-2 c = let w = c .before .before .before .before .before .pre in let z = sizes (c .before .before .before .before .before .args .s) (c .before .before .before .before .before .args .p) (c .before .before .before .before .before .args .b) (c .before .before .loop .j) (c .before .before .before .before .before .args .m) (allowed (c .before .before .before .before .before .args .s) (w .0 .shape)) (w .0 .posed) (w .1 .0) (w .1 .1) (c .before .loop-test .taken) in omega (arith, z .run)
 
 add-add-row : tie.Need-add-add-row Inv-loop μ-loop
-add-add-row c = let w = c .before .before .before .before .before .pre in let z = sizes (c .before .before .before .before .before .args .s) (c .before .before .before .before .before .args .p) (c .before .before .before .before .before .args .b) (c .before .before .loop .j) (c .before .before .before .before .before .args .m) (allowed (c .before .before .before .before .before .args .s) (w .0 .shape)) (w .0 .plan) (w .1 .0) (w .1 .1) (c .before .loop-test .taken) in omega (arith, z .row, z .run)
+add-add-row c = let w = c .before .before .before .before .before .pre in let z = sizes (c .before .before .before .before .before .args .s) (c .before .before .before .before .before .args .p) (c .before .before .before .before .before .args .b) (c .before .before .loop .j) (c .before .before .before .before .before .args .m) (allowed (c .before .before .before .before .before .args .s) (w .0 .shape)) (w .0 .posed) (w .1 .0) (w .1 .1) (c .before .loop-test .taken) in omega (arith, z .row, z .run)
 
 mul-add-row-3 : tie.Need-mul-add-row-3 Inv-loop μ-loop
-mul-add-row-3 c = let w = c .before .before .before .before .before .pre in let z = sizes (c .before .before .before .before .before .args .s) (c .before .before .before .before .before .args .p) (c .before .before .before .before .before .args .b) (c .before .before .loop .j) (c .before .before .before .before .before .args .m) (allowed (c .before .before .before .before .before .args .s) (w .0 .shape)) (w .0 .plan) (w .1 .0) (w .1 .1) (c .before .loop-test .taken) in omega (arith, z .like)
+mul-add-row-3 c = let w = c .before .before .before .before .before .pre in let z = sizes (c .before .before .before .before .before .args .s) (c .before .before .before .before .before .args .p) (c .before .before .before .before .before .args .b) (c .before .before .loop .j) (c .before .before .before .before .before .args .m) (allowed (c .before .before .before .before .before .args .s) (w .0 .shape)) (w .0 .posed) (w .1 .0) (w .1 .1) (c .before .loop-test .taken) in omega (arith, z .like)
 
 add-row-requires : tie.Need-add-row-requires Inv-loop μ-loop
 add-row-requires c κs =
@@ -41,13 +41,13 @@ add-row-requires c κs =
     let w = c .before .before .before .before .before .pre in
     let t = c .before .before .loop .inv in
     let f = allowed (a .s) (w .0 .shape) in
-    let z = sizes (a .s) (a .p) (a .b) (c .before .before .loop .j) (a .m) f (w .0 .plan) (w .1 .0) (w .1 .1) (c .before .loop-test .taken) in (
-      record { shape = w .0 .shape; plan = w .0 .plan; long = t .1 .long ∙ w .0 .long },
+    let z = sizes (a .s) (a .p) (a .b) (c .before .before .loop .j) (a .m) f (w .0 .posed) (w .1 .0) (w .1 .1) (c .before .loop-test .taken) in (
+      record { shape = w .0 .shape; posed = w .0 .posed; long = t .1 .long ∙ w .0 .long },
       (
         omega arith,
         (
           omega (arith, w .1 .1, f .runs-most),
-          (z .like, carry-sources (a .s) f (a .p) (w .0 .plan) (a .b) (c .before .before .loop .j) (a .m) (w .1 .0) (w .1 .1) (c .before .before .before .if1 .left) (c .before .loop-test .taken) _ (t .1 .long ∙ w .0 .long)),
+          (z .like, carry-sources (a .s) f (a .p) (w .0 .posed) (a .b) (c .before .before .loop .j) (a .m) (w .1 .0) (w .1 .1) (c .before .before .before .if1 .left) (c .before .loop-test .taken) _ (t .1 .long ∙ w .0 .long)),
         ),
       ),
     )
@@ -63,7 +63,7 @@ loop-again c =
     let a = c .before .before .before .before .before .before .before .before .args in
     let w = c .before .before .before .before .before .before .before .before .pre in (
       omega (arith, c .before .before .before .before .loop-test .taken),
-      carried-turn (a .s) (allowed (a .s) (w .0 .shape)) (a .p) (w .0 .plan) (a .b) (c .before .before .before .before .before .loop .j) (a .m) (w .1 .0) (w .1 .1) (c .before .before .before .before .before .before .if1 .left) (c .before .before .before .before .loop-test .taken) _ _ _
+      carried-turn (a .s) (allowed (a .s) (w .0 .shape)) (a .p) (w .0 .posed) (a .b) (c .before .before .before .before .before .loop .j) (a .m) (w .1 .0) (w .1 .1) (c .before .before .before .before .before .before .if1 .left) (c .before .before .before .before .loop-test .taken) _ _ _
           (ap (points (a .b)) (less-zero _)) (c .before .before .add-row .ensures) _ (c .before .before .before .before .before .loop .inv .1),
     )
 

@@ -9,10 +9,10 @@ use Rattle.field.specs.Bytes.{Bytes}
 use Rattle.stripe.specs.Stripe.{runs}
 use Rattle.stripe.proofs.Allowed.{allowed}
 use Rattle.stripe.proofs.Errors.{points as powers}
-use Rattle.mending.specs.Plan.{less}
+use Rattle.mending.specs.System.{less}
 use Rattle.syndromes.specs.Syndromes.{Syndromes}
 use Rattle.mending.specs.Scratch.{SolvedBelow}
-use Rattle.mending.proofs.Planned.{weights-asked, first-few, step-few}
+use Rattle.mending.proofs.Posed.{weights-asked, first-few, step-few}
 use Rattle.mending.proofs.Slots.{spaced-as}
 use Rattle.mending.proofs.Runs.{first-length, step-length, sizes, runs-start, run-spaced, run-solved, powers-length}
 use Rattle.mending.proofs.run.solve_runs.Statement.{statement}
@@ -27,10 +27,10 @@ abbrev μ-loop : tie.MeasureT-loop
 μ-loop s p slots₀ count points weights n m l at d b₀ slots b = runs s - b
 
 row-weights-requires : tie.Need-row-weights-requires Inv-loop μ-loop
-row-weights-requires c κs = let f = allowed (c .before .args .s) (c .before .pre .shape) in weights-asked (c .before .args .s) (c .before .args .p) _ _ f (c .before .pre .plan) (omega arith) (omega (arith, step-few (c .before .args .s) f (c .before .args .p) (c .before .pre .plan), first-few (c .before .args .s) f (c .before .args .p) (c .before .pre .plan)))
+row-weights-requires c κs = let f = allowed (c .before .args .s) (c .before .pre .shape) in weights-asked (c .before .args .s) (c .before .args .p) _ _ f (c .before .pre .posed) (omega arith) (omega (arith, step-few (c .before .args .s) f (c .before .args .p) (c .before .pre .posed), first-few (c .before .args .s) f (c .before .args .p) (c .before .pre .posed)))
 
 row-weights-requires-2 : tie.Need-row-weights-requires-2 Inv-loop μ-loop
-row-weights-requires-2 c κs = let f = allowed (c .before .before .args .s) (c .before .before .pre .shape) in weights-asked (c .before .before .args .s) (c .before .before .args .p) _ _ f (c .before .before .pre .plan) (omega arith) (omega (arith, first-few (c .before .before .args .s) f (c .before .before .args .p) (c .before .before .pre .plan)))
+row-weights-requires-2 c κs = let f = allowed (c .before .before .args .s) (c .before .before .pre .shape) in weights-asked (c .before .before .args .s) (c .before .before .args .p) _ _ f (c .before .before .pre .posed) (omega arith) (omega (arith, first-few (c .before .before .args .s) f (c .before .before .args .p) (c .before .before .pre .posed)))
 
 runs-requires : tie.Need-runs-requires Inv-loop μ-loop
 runs-requires c κs = search needs
@@ -39,10 +39,10 @@ run-length-requires : tie.Need-run-length-requires Inv-loop μ-loop
 run-length-requires c κs = search needs
 
 mul-at : tie.Need-mul-at Inv-loop μ-loop
-mul-at c = omega (arith, first-length (c .before .before .before .before .before .before .args .s) (c .before .before .before .before .before .before .args .p) (allowed (c .before .before .before .before .before .before .args .s) (c .before .before .before .before .before .before .pre .shape)) (c .before .before .before .before .before .before .pre .plan), step-length (c .before .before .before .before .before .before .args .s) (c .before .before .before .before .before .before .args .p) (allowed (c .before .before .before .before .before .before .args .s) (c .before .before .before .before .before .before .pre .shape)) (c .before .before .before .before .before .before .pre .plan))
+mul-at c = omega (arith, first-length (c .before .before .before .before .before .before .args .s) (c .before .before .before .before .before .before .args .p) (allowed (c .before .before .before .before .before .before .args .s) (c .before .before .before .before .before .before .pre .shape)) (c .before .before .before .before .before .before .pre .posed), step-length (c .before .before .before .before .before .before .args .s) (c .before .before .before .before .before .before .args .p) (allowed (c .before .before .before .before .before .before .args .s) (c .before .before .before .before .before .before .pre .shape)) (c .before .before .before .before .before .before .pre .posed))
 
 mul-d : tie.Need-mul-d Inv-loop μ-loop
-mul-d c = omega (arith, step-length (c .before .before .before .before .before .before .before .args .s) (c .before .before .before .before .before .before .before .args .p) (allowed (c .before .before .before .before .before .before .before .args .s) (c .before .before .before .before .before .before .before .pre .shape)) (c .before .before .before .before .before .before .before .pre .plan))
+mul-d c = omega (arith, step-length (c .before .before .before .before .before .before .before .args .s) (c .before .before .before .before .before .before .before .args .p) (allowed (c .before .before .before .before .before .before .before .args .s) (c .before .before .before .before .before .before .before .pre .shape)) (c .before .before .before .before .before .before .before .pre .posed))
 
 loop-holds : tie.Need-loop-holds Inv-loop μ-loop
 loop-holds c = (omega arith, (refl, (λ i. c .before .before .before .before .before .before .slice-known .given i .fits, λ xs b t. runs-start (c .before .before .before .before .before .before .before .args .s) (c .before .before .before .before .before .before .before .args .p) xs _ t)))
@@ -50,25 +50,25 @@ loop-holds c = (omega arith, (refl, (λ i. c .before .before .before .before .be
 carry-requires : tie.Need-carry-requires Inv-loop μ-loop
 carry-requires c κs =
     let w = c .before .before .before .before .before .before .before .before .before .before .pre in
-    (record { shape = w .shape; plan = w .plan; long = c .before .before .loop .inv .1 .0 ∙ w .long }, (c .before .before .before .before .before .run-length .ensures, omega (arith, c .before .loop-test .taken, c .before .before .before .before .before .before .runs .ensures)))
+    (record { shape = w .shape; posed = w .posed; long = c .before .before .loop .inv .1 .0 ∙ w .long }, (c .before .before .before .before .before .run-length .ensures, omega (arith, c .before .loop-test .taken, c .before .before .before .before .before .before .runs .ensures)))
 
 array-share-prefix-points : tie.Need-array-share-prefix-points Inv-loop μ-loop
-array-share-prefix-points c = let w = c .before .before .before .before .before .before .before .before .before .before .before .before .before .pre .plan in omega (arith, c .before .before .before .before .before .before .before .before .before .before .before .row-weights .ensures .0, w .many, w .few)
+array-share-prefix-points c = let w = c .before .before .before .before .before .before .before .before .before .before .before .before .before .pre .posed in omega (arith, c .before .before .before .before .before .before .before .before .before .before .before .row-weights .ensures .0, w .many, w .few)
 
 slice-aggregate-solve-slots : tie.Need-slice-aggregate-solve-slots Inv-loop μ-loop
-slice-aggregate-solve-slots c = let w = c .before .before .before .before .before .before .before .before .before .before .before .before .before .before .pre .plan in sym (length-take-le (c .before .before .before .before .before .before .before .before .before .before .before .before .before .before .args .p .count) (c .before .before .before .before .before .before .before .before .before .before .before .before .row-weights .result) (omega (arith, c .before .before .before .before .before .before .before .before .before .before .before .before .row-weights .ensures .0, w .many, w .few)))
+slice-aggregate-solve-slots c = let w = c .before .before .before .before .before .before .before .before .before .before .before .before .before .before .pre .posed in sym (length-take-le (c .before .before .before .before .before .before .before .before .before .before .before .before .before .before .args .p .count) (c .before .before .before .before .before .before .before .before .before .before .before .before .row-weights .result) (omega (arith, c .before .before .before .before .before .before .before .before .before .before .before .before .row-weights .ensures .0, w .many, w .few)))
 
 array-share-prefix-weights : tie.Need-array-share-prefix-weights Inv-loop μ-loop
-array-share-prefix-weights c = let w = c .before .before .before .before .before .before .before .before .before .before .before .before .before .before .pre .plan in omega (arith, c .before .before .before .before .before .before .before .before .before .before .before .row-weights2 .ensures .0, w .many, w .few)
+array-share-prefix-weights c = let w = c .before .before .before .before .before .before .before .before .before .before .before .before .before .before .pre .posed in omega (arith, c .before .before .before .before .before .before .before .before .before .before .before .row-weights2 .ensures .0, w .many, w .few)
 
 slice-aggregate-solve-slots-2 : tie.Need-slice-aggregate-solve-slots-2 Inv-loop μ-loop
-slice-aggregate-solve-slots-2 c = let w = c .before .before .before .before .before .before .before .before .before .before .before .before .before .before .before .pre .plan in sym (length-take-le (c .before .before .before .before .before .before .before .before .before .before .before .before .before .before .before .args .p .count) (c .before .before .before .before .before .before .before .before .before .before .before .before .row-weights2 .result) (omega (arith, c .before .before .before .before .before .before .before .before .before .before .before .before .row-weights2 .ensures .0, w .many, w .few)))
+slice-aggregate-solve-slots-2 c = let w = c .before .before .before .before .before .before .before .before .before .before .before .before .before .before .before .pre .posed in sym (length-take-le (c .before .before .before .before .before .before .before .before .before .before .before .before .before .before .before .args .p .count) (c .before .before .before .before .before .before .before .before .before .before .before .before .row-weights2 .result) (omega (arith, c .before .before .before .before .before .before .before .before .before .before .before .before .row-weights2 .ensures .0, w .many, w .few)))
 
 mul-solve-slots : tie.Need-mul-solve-slots Inv-loop μ-loop
-mul-solve-slots c = let w = c .before .before .before .before .before .before .before .before .before .before .before .before .before .before .before .before .pre in let f = allowed (c .before .before .before .before .before .before .before .before .before .before .before .before .before .before .before .before .args .s) (w .shape) in let z = sizes (c .before .before .before .before .before .before .before .before .before .before .before .before .before .before .before .before .args .s) (c .before .before .before .before .before .before .before .before .before .before .before .before .before .before .before .before .args .p) (c .before .before .before .before .before .before .before .before .loop .b) 0 (c .before .before .before .before .before .before .before .before .before .before .before .run-length .result) f (w .plan) (c .before .before .before .before .before .before .before .before .before .before .before .run-length .ensures) (omega (arith, c .before .before .before .before .before .before .before .loop-test .taken, c .before .before .before .before .before .before .before .before .before .before .before .before .runs .ensures)) (f .parity-some) in omega (arith, z .run)
+mul-solve-slots c = let w = c .before .before .before .before .before .before .before .before .before .before .before .before .before .before .before .before .pre in let f = allowed (c .before .before .before .before .before .before .before .before .before .before .before .before .before .before .before .before .args .s) (w .shape) in let z = sizes (c .before .before .before .before .before .before .before .before .before .before .before .before .before .before .before .before .args .s) (c .before .before .before .before .before .before .before .before .before .before .before .before .before .before .before .before .args .p) (c .before .before .before .before .before .before .before .before .loop .b) 0 (c .before .before .before .before .before .before .before .before .before .before .before .run-length .result) f (w .posed) (c .before .before .before .before .before .before .before .before .before .before .before .run-length .ensures) (omega (arith, c .before .before .before .before .before .before .before .loop-test .taken, c .before .before .before .before .before .before .before .before .before .before .before .before .runs .ensures)) (f .parity-some) in omega (arith, z .run)
 
 add-solve-slots : tie.Need-add-solve-slots Inv-loop μ-loop
-add-solve-slots c = let w = c .before .before .before .before .before .before .before .before .before .before .before .before .before .before .before .before .pre in let f = allowed (c .before .before .before .before .before .before .before .before .before .before .before .before .before .before .before .before .args .s) (w .shape) in let z = sizes (c .before .before .before .before .before .before .before .before .before .before .before .before .before .before .before .before .args .s) (c .before .before .before .before .before .before .before .before .before .before .before .before .before .before .before .before .args .p) (c .before .before .before .before .before .before .before .before .loop .b) 0 (c .before .before .before .before .before .before .before .before .before .before .before .run-length .result) f (w .plan) (c .before .before .before .before .before .before .before .before .before .before .before .run-length .ensures) (omega (arith, c .before .before .before .before .before .before .before .loop-test .taken, c .before .before .before .before .before .before .before .before .before .before .before .before .runs .ensures)) (f .parity-some) in omega (arith, z .first, z .run)
+add-solve-slots c = let w = c .before .before .before .before .before .before .before .before .before .before .before .before .before .before .before .before .pre in let f = allowed (c .before .before .before .before .before .before .before .before .before .before .before .before .before .before .before .before .args .s) (w .shape) in let z = sizes (c .before .before .before .before .before .before .before .before .before .before .before .before .before .before .before .before .args .s) (c .before .before .before .before .before .before .before .before .before .before .before .before .before .before .before .before .args .p) (c .before .before .before .before .before .before .before .before .loop .b) 0 (c .before .before .before .before .before .before .before .before .before .before .before .run-length .result) f (w .posed) (c .before .before .before .before .before .before .before .before .before .before .before .run-length .ensures) (omega (arith, c .before .before .before .before .before .before .before .loop-test .taken, c .before .before .before .before .before .before .before .before .before .before .before .before .runs .ensures)) (f .parity-some) in omega (arith, z .first, z .run)
 
 solve-slots-requires : tie.Need-solve-slots-requires Inv-loop μ-loop
 solve-slots-requires c κs =
@@ -76,11 +76,11 @@ solve-slots-requires c κs =
     let w = c .before .before .before .before .before .before .before .before .before .before .before .before .before .before .before .before .pre in
     let f = allowed (a .s) (w .shape) in
     let k = c .before .before .before .before .before .carry .ensures in
-    let is = ap (less (a .p .pivot)) (w .plan .front) in
-    let bs = powers-length (a .s) f (a .p) (w .plan) (a .p .step) _ (c .before .before .before .before .before .before .before .before .before .before .before .before .before .before .row-weights .ensures .1 ∙ ap (powers (a .p .step)) is) in
-    let ws = powers-length (a .s) f (a .p) (w .plan) (a .p .first) _ (c .before .before .before .before .before .before .before .before .before .before .before .before .before .row-weights2 .ensures .1 ∙ ap (powers (a .p .first)) is) in (
+    let is = ap (less (a .p .pivot)) (w .posed .front) in
+    let bs = powers-length (a .s) f (a .p) (w .posed) (a .p .step) _ (c .before .before .before .before .before .before .before .before .before .before .before .before .before .before .row-weights .ensures .1 ∙ ap (powers (a .p .step)) is) in
+    let ws = powers-length (a .s) f (a .p) (w .posed) (a .p .first) _ (c .before .before .before .before .before .before .before .before .before .before .before .before .before .row-weights2 .ensures .1 ∙ ap (powers (a .p .first)) is) in (
       spaced-as _ _ _ _ _ _ _ (sym bs) (sym (k .long ∙ c .before .before .before .before .before .before .before .before .loop .inv .1 .0))
-          (run-spaced (a .s) (a .p) (c .before .before .before .before .before .before .before .before .loop .b) (c .before .before .before .before .before .before .before .before .before .before .before .run-length .result) _ f (w .plan) (c .before .before .before .before .before .before .before .before .before .before .before .run-length .ensures) (omega (arith, c .before .before .before .before .before .before .before .loop-test .taken, c .before .before .before .before .before .before .before .before .before .before .before .before .runs .ensures)) (w .long)),
+          (run-spaced (a .s) (a .p) (c .before .before .before .before .before .before .before .before .loop .b) (c .before .before .before .before .before .before .before .before .before .before .before .run-length .result) _ f (w .posed) (c .before .before .before .before .before .before .before .before .before .before .before .run-length .ensures) (omega (arith, c .before .before .before .before .before .before .before .loop-test .taken, c .before .before .before .before .before .before .before .before .before .before .before .before .runs .ensures)) (w .long)),
       ws ∙ sym bs,
     )
 
@@ -95,8 +95,8 @@ loop-again c =
     let a = c .before .before .before .before .before .before .before .before .before .before .before .before .before .before .before .before .before .before .before .args in
     let w = c .before .before .before .before .before .before .before .before .before .before .before .before .before .before .before .before .before .before .before .pre in
     let t = c .before .before .before .before .before .before .before .before .before .before .before .loop in
-    let is = ap (less (a .p .pivot)) (w .plan .front) in
-    let k = run-solved (a .s) (allowed (a .s) (w .shape)) (a .p) (w .plan) (t .b) (c .before .before .before .before .before .before .before .before .before .before .before .before .before .before .run-length .result) _ _ (t .slots) (c .before .before .before .before .before .before .before .before .carry .last .1 .1 .1 .1 .0) _
+    let is = ap (less (a .p .pivot)) (w .posed .front) in
+    let k = run-solved (a .s) (allowed (a .s) (w .shape)) (a .p) (w .posed) (t .b) (c .before .before .before .before .before .before .before .before .before .before .before .before .before .before .run-length .result) _ _ (t .slots) (c .before .before .before .before .before .before .before .before .carry .last .1 .1 .1 .1 .0) _
     (c .before .before .before .before .before .before .before .before .before .before .before .before .before .before .run-length .ensures) (omega (arith, c .before .before .before .before .before .before .before .before .before .before .loop-test .taken, c .before .before .before .before .before .before .before .before .before .before .before .before .before .before .before .runs .ensures)) (t .inv .1 .1 .0) (λ i. c .before .before .before .before .before .before .slice-known2 .given i .fits)
     (c .before .before .before .before .before .before .before .before .before .before .before .before .before .before .before .before .before .row-weights .ensures .1 ∙ ap (powers (a .p .step)) is) (c .before .before .before .before .before .before .before .before .before .before .before .before .before .before .before .before .row-weights2 .ensures .1 ∙ ap (powers (a .p .first)) is) (c .before .before .before .before .before .before .before .before .carry .ensures) (c .before .before .solve-slots .ensures) in
     (omega (arith, c .before .before .before .before .before .before .before .before .before .before .loop-test .taken, c .before .before .before .before .before .before .before .before .before .before .before .before .before .before .before .runs .ensures), (k .long ∙ t .inv .1 .0, (λ i. c .slice-known3 .given i .fits, λ xs b z. k .more xs b (t .inv .1 .1 .1 xs b z))))

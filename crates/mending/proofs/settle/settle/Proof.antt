@@ -30,7 +30,7 @@ settle-row-requires : tie.Need-settle-row-requires Inv-loop μ-loop
 settle-row-requires c κs =
     let w = c .before .before .before .before .pre in
     let t = c .before .before .loop .inv in
-    (record { shape = w .shape; plan = w .plan; long = t .1 .0 ∙ w .long }, c .before .loop-test .taken)
+    (record { shape = w .shape; posed = w .posed; long = t .1 .0 ∙ w .long }, c .before .loop-test .taken)
 
 same-length : tie.Need-same-length Inv-loop μ-loop
 same-length c = c .before .before .before .settle-row .ensures .long ∙ c .before .before .before .before .before .before .loop .inv .1 .0

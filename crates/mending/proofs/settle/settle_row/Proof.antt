@@ -9,8 +9,8 @@ use Rattle.stripe.proofs.Allowed.{allowed}
 use Rattle.stripe.proofs.Errors.{points}
 use Rattle.stripe.specs.Shape.{mostParity, mostLength, mostParityLength}
 use Rattle.mending.specs.Slots.{Sources, Gathered}
-use Rattle.mending.specs.Plan.{less, gone}
-use Rattle.mending.proofs.Planned.{first-few, step-few}
+use Rattle.mending.specs.System.{less, gone}
+use Rattle.mending.proofs.Posed.{first-few, step-few}
 use Rattle.mending.proofs.Added.{slot-ends}
 use Rattle.mending.proofs.Settled.{skip-settles, finish-sources, row-settles}
 use Rattle.mending.proofs.settle.settle_row.Statement.{statement}
@@ -19,7 +19,7 @@ use Rattle.mending.proofs.settle.settle_row.Tie as tie
 solves-requires : tie.Need-solves-requires
 solves-requires c κs =
     let a = c .before .args in
-    let w = c .before .pre .0 .plan in
+    let w = c .before .pre .0 .posed in
     let f = allowed (a .s) (c .before .pre .0 .shape) in
     (omega (arith, w .many, w .few), (omega (arith, first-few (a .s) f (a .p) w), omega (arith, step-few (a .s) f (a .p) w)))
 
@@ -40,7 +40,7 @@ add-row-requires c κs =
     let f = allowed (a .s) (w .0 .shape) in
     let o = c .before .before .solves .ensures .not-so (c .before .if1 .left) in (
       w .0,
-      (omega arith, (omega (arith, w .1, f .parity-most), (omega arith, subst (λ (z : ℕ). Sources (a .p .count) (a .j * a .s .l) z (a .p .step * a .s .l) (a .s .l) (length (a .slots .now))) (sym (add-zero _)) (finish-sources (a .s) f (a .p) (w .0 .plan) (a .j) (w .1) o _ (w .0 .long))))),
+      (omega arith, (omega (arith, w .1, f .parity-most), (omega arith, subst (λ (z : ℕ). Sources (a .p .count) (a .j * a .s .l) z (a .p .step * a .s .l) (a .s .l) (length (a .slots .now))) (sym (add-zero _)) (finish-sources (a .s) f (a .p) (w .0 .posed) (a .j) (w .1) o _ (w .0 .long))))),
     )
 
 clean-requires : tie.Need-clean-requires
@@ -48,7 +48,7 @@ clean-requires c κs =
     let a = c .before .before .before .before .before .before .before .before .args in
     let w = c .before .before .before .before .before .before .before .before .pre in
     let f = allowed (a .s) (w .0 .shape) in
-    (w .0 .plan .few, (f .data-most, (omega (arith, w .1, f .parity-most), omega (arith, slot-ends (a .s) f (a .p) (w .0 .plan) (a .j) (w .1), c .before .before .before .add-row .ensures .long, w .0 .long))))
+    (w .0 .posed .few, (f .data-most, (omega (arith, w .1, f .parity-most), omega (arith, slot-ends (a .s) f (a .p) (w .0 .posed) (a .j) (w .1), c .before .before .before .add-row .ensures .long, w .0 .long))))
 
 same-length : tie.Need-same-length
 same-length c = search needs
@@ -57,7 +57,7 @@ returns-2 : tie.Need-returns-2
 returns-2 c =
     let a = c .before .before .before .before .before .before .before .before .before .args in
     let w = c .before .before .before .before .before .before .before .before .before .pre in
-    row-settles (a .s) (allowed (a .s) (w .0 .shape)) (a .p) (w .0 .plan) (a .j) (w .1) (c .before .before .before .before .before .before .before .solves .ensures .not-so (c .before .before .before .before .before .before .if1 .left)) (a .slots .now) (c .before .before .before .before .add-row .last .1 .1 .1 .1 .0)
+    row-settles (a .s) (allowed (a .s) (w .0 .shape)) (a .p) (w .0 .posed) (a .j) (w .1) (c .before .before .before .before .before .before .before .solves .ensures .not-so (c .before .before .before .before .before .before .if1 .left)) (a .slots .now) (c .before .before .before .before .add-row .last .1 .1 .1 .1 .0)
     (subst (λ (z : ℕ). Gathered (points (a .j) (less (a .p .pivot) (gone (a .s) (a .p)))) (a .j * a .s .l) z (a .p .step * a .s .l) (a .s .l) (a .slots .now) (c .before .before .before .before .add-row .last .1 .1 .1 .1 .0)) (add-zero _) (c .before .before .before .before .add-row .ensures))
     (c .clean .result) (λ i. c .before .before .slice-known2 .given i .fits) (c .clean .ensures)
 

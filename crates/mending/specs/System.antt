@@ -1,4 +1,4 @@
--- What is solved by: the lost data columns and the rows.
+-- What is solved: the lost data columns are the unknowns, and rows that survive the equations.
 use Prim.Native.Nat.{ℕ, _+_, _-_, _*_, _≤_, _<_}
 use mathlib.Core.Path.{_≡_}
 use mathlib.Core.Bool.{true}
@@ -10,7 +10,7 @@ use Rattle.stripe.specs.Shape.{columns}
 use Rattle.stripe.specs.Stripe.{runs, among, Ascending, plainRuns}
 use Rattle.stripe.proofs.Survivors.{firstRow, rowStep}
 use Rattle.stripe.proofs.Lost.{lostData, rowLost}
-use Rattle.mending.specs.declared.plan.Plan.{Plan}
+use Rattle.mending.specs.declared.system.System.{System}
 use Rattle.lost.specs.Lost.{lostList, capacity}
 
 -- positions counted from x on
@@ -19,17 +19,17 @@ less x [] = []
 less x (i ∷ is) = (i - x) ∷ less x is
 
 -- the lost positions, and the lost data columns
-abbrev pub lostIn : Plan → List ℕ
+abbrev pub lostIn : System → List ℕ
 lostIn p = lostList (p .lost)
 
-abbrev pub gone : Shape → Plan → List ℕ
+abbrev pub gone : Shape → System → List ℕ
 gone s p = lostData (s .k) (lostIn p)
 
 -- row j is solved by; is not
-abbrev pub Solver : Plan → ℕ → Type 0
+abbrev pub Solver : System → ℕ → Type 0
 Solver p j = (v : ℕ) × ((v < p .count) × (p .first + p .step * v ≡ j))
 
-abbrev pub Other : Plan → ℕ → Type 0
+abbrev pub Other : System → ℕ → Type 0
 Other p j = Solver p j → ⊥
 
 -- where positions are counted from: 0, or in a plain stripe, where the e lost data columns are all n that are lost, the first of them, i
@@ -37,7 +37,7 @@ abbrev pub PivotOf : ℕ → ℕ → ℕ → ℕ → ℕ → Type 0
 PivotOf t e n i x = (x ≡ 0) ⊎ ((t ≡ 0) × ((0 < e) × ((e ≡ n) × (x ≡ i))))
 
 -- the columns are the lost ones and the rows the first that survive; positions are counted from 0 on unless the stripe is plain and no row is lost
-pub record Planned (s : Shape) (p : Plan) : Type 0 where
+pub record Posed (s : Shape) (p : System) : Type 0 where
   pub room : length (p .lost .at) ≡ capacity
   pub few : p .lost .count ≤ capacity
   pub ascend : Ascending 0 (columns s) (lostIn p)

@@ -1,11 +1,11 @@
--- `plan_of` meets its contract.
+-- `system_of` meets its contract.
 use borrow.Author.Needs.{needs}
 use mathlib.Core.Path.{refl}
 use native.Mathlib.Omega.{arith}
 use Rattle.stripe.proofs.Allowed.{allowed}
-use Rattle.mending.proofs.Planned.{planned}
-use Rattle.mending.proofs.plan.plan_of.Statement.{statement}
-use Rattle.mending.proofs.plan.plan_of.Tie as tie
+use Rattle.mending.proofs.Posed.{posed}
+use Rattle.mending.proofs.system.system_of.Statement.{statement}
+use Rattle.mending.proofs.system.system_of.Tie as tie
 
 add-data-lost : tie.Need-add-data-lost
 add-data-lost c = let f = allowed (c .args .s) (c .pre .shape) in omega (arith, f .data-most, f .parity-most)
@@ -29,9 +29,9 @@ returns : tie.Need-returns
 returns c =
     let a = c .before .before .before .before .before .args in
     let e = c .before .before .before .before .data-lost .ensures in
-    (refl, planned (a .s) (a .lost) _ _ _ _ (c .before .before .before .before .before .pre) (e .0) (e .1) (c .pivot-of .ensures) (c .before .before .before .first-row .ensures) (c .before .before .row-step .ensures))
+    (refl, posed (a .s) (a .lost) _ _ _ _ (c .before .before .before .before .before .pre) (e .0) (e .1) (c .pivot-of .ensures) (c .before .before .before .first-row .ensures) (c .before .before .row-step .ensures))
 
-pub plan-of-spec : {M : Type 1} → statement M
-plan-of-spec =
+pub system-of-spec : {M : Type 1} → statement M
+system-of-spec =
     tie.close
     (tie.spec add-data-lost data-lost-requires first-row-requires row-step-requires array-read-pivot-of pivot-of-requires returns)

@@ -1,4 +1,4 @@
--- What a plan says: the rows to solve by are below r, and the lost data columns are distinct; and sums over the errors counted from a pivot.
+-- What a system says: the rows to solve by are below r, and the lost data columns are distinct; and sums over the errors counted from a pivot.
 use Prim.Native.Nat.{ℕ, zero, suc, _+_, _-_, _*_, _≤_, _<_}
 use mathlib.Core.Path.{_≡_, refl, sym, ap, ap₂, subst, _∙_}
 use mathlib.Core.Bool.{Bool, true, false, cond, _||_, true≢false}
@@ -25,11 +25,11 @@ use Rattle.stripe.proofs.Lost.{lostData, rowLost, lost-data-ascending, ascendin
 use Rattle.stripe.proofs.Errors.{points, points-length, points-bytes, points-weights, points-apart, errorRow, error-moment, errors, errors-length, errors-bytes, syndrome}
 use Rattle.stripe.proofs.Word.{wordErrors, word-spread}
 use Rattle.lost.specs.declared.Lost.{Lost}
-use Rattle.mending.specs.declared.plan.Plan.{Plan}
+use Rattle.mending.specs.declared.system.System.{System}
 use Rattle.lost.specs.Lost.{lostList, capacity}
 use Rattle.mending.specs.Restore.{Ready}
 use Rattle.mending.specs.Slots.{weighted}
-use Rattle.mending.specs.Plan.{less, lostIn, gone, PivotOf, Planned}
+use Rattle.mending.specs.System.{less, lostIn, gone, PivotOf, Posed}
 
 -- ---- positions
 
@@ -132,9 +132,9 @@ weighted-row j (i ∷ is) (x ∷ es) f e h =
     ap₂ _⊕_ (ap₂ _⊗_ (ap gpow (ℕ-mul-comm j i)) (h 0 (omega arith)))
     (weighted-row j is es (λ v. f (suc v)) (suc-inj e) (λ v l. h (suc v) (omega arith)))
 
--- ---- the plan's facts
+-- ---- the system's facts
 
-module _ (s : Shape) (f : Allowed s) (p : Plan) (w : Planned s p) where
+module _ (s : Shape) (f : Allowed s) (p : System) (w : Posed s p) where
   pub count-is : p .count ≡ length (gone s p)
   count-is = sym (length-take-le (p .count) (p .lost .at) (omega (arith, w .many, w .few, w .room))) ∙ ap length (w .front)
 
@@ -268,11 +268,12 @@ weights-done at ws e x j v he few room long h =
         ∙ ap gpow (ap (λ (z : ℕ). (z - x) * j) (sym (getD-take e at u 0 l)) ∙ ap (λ (z : ℕ). z * j) (sym (less-at x (take e at) u (omega (arith, many)))) ∙ ℕ-mul-comm _ j)
         ∙ sym (points-at j (less x (take e at)) u (omega (arith, many, less-length x (take e at))))
 
--- the plan from its parts
-pub planned : (s : Shape) (w : Lost) (e x a d : ℕ) → Ready s w → e ≤ w .count → take e (w .at) ≡ lostData (s .k) (lostList w) → PivotOf (s .t) e (w .count) (getD (w .at) 0 0) x
+-- the system from its parts
+pub posed : (s : Shape) (w : Lost) (e x a d : ℕ) → Ready s w → e ≤ w .count → take e (w .at) ≡ lostData (s .k) (lostList w)
+    → PivotOf (s .t) e (w .count) (getD (w .at) 0 0) x
     → a ≡ firstRow (rowLost (s .k) (lostList w)) → d ≡ rowStep (rowLost (s .k) (lostList w))
-    → Planned s record { lost = w; count = e; pivot = x; first = a; step = d }
-planned s w e x a d r he front from ea ed =
+    → Posed s record { lost = w; count = e; pivot = x; first = a; step = d }
+posed s w e x a d r he front from ea ed =
     record {
       room = r .room;
       few = omega (arith, r .few, f .parity-most);
@@ -326,7 +327,8 @@ planned s w e x a d r he front from ea ed =
     apart (inr q) = inr (q .0, omega (arith, q .1 .1 .1, at 0 (omega (arith, q .1 .0)), data-only (q .1 .1 .0) 0 (omega (arith, q .1 .0))))
 
 -- what the weights are asked for
-pub weights-asked : (s : Shape) (p : Plan) (x j : ℕ) → Allowed s → Planned s p → x ≤ p .pivot → j < mostParity
-    → (length (p .lost .at) ≡ capacity) × ((p .count ≤ capacity) × ((j < mostParity) × ((v : ℕ) → v < p .count → (x ≤ getD (p .lost .at) v 0) × (getD (p .lost .at) v 0 < 256))))
+pub weights-asked : (s : Shape) (p : System) (x j : ℕ) → Allowed s → Posed s p → x ≤ p .pivot → j < mostParity
+    → (length (p .lost .at) ≡ capacity) × ((p .count ≤ capacity) × ((j < mostParity)
+    × ((v : ℕ) → v < p .count → (x ≤ getD (p .lost .at) v 0) × (getD (p .lost .at) v 0 < 256))))
 weights-asked s p x j f w hx hj =
     (w .room, (omega (arith, w .many, w .few), (hj, λ v h. (omega (arith, w .pivot-below v h), omega (arith, position-below s f p w v h, f .data-most)))))

@@ -2,8 +2,8 @@
 use mathlib.Core.Path.{refl}
 use mathlib.Core.Logic.{inl, inr}
 use native.Mathlib.Omega.{arith}
-use Rattle.mending.proofs.plan.pivot_of.Statement.{statement}
-use Rattle.mending.proofs.plan.pivot_of.Tie as tie
+use Rattle.mending.proofs.system.pivot_of.Statement.{statement}
+use Rattle.mending.proofs.system.pivot_of.Tie as tie
 
 returns : tie.Need-returns
 returns c = inl refl

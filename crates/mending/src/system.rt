@@ -1,4 +1,5 @@
-// What to solve by, once for all places: which lost columns, which rows, and the powers of g that belong to them.
+// What is solved, once for all places: which lost columns are unknown, which rows are the equations, and the powers of g that belong
+// to them.
 use crate::scalars::power;
 use crate::survivors::data_lost;
 use crate::survivors::first_row;
@@ -12,11 +13,11 @@ ghost use lib.ListN.{length, getD, take};
 ghost use Rattle.stripe.proofs.Errors.{points};
 ghost use Rattle.stripe.specs.Shape.{mostParity};
 ghost use Rattle.mending.specs.Restore.{Ready};
-ghost use Rattle.mending.specs.Plan.{PivotOf, Planned, less};
+ghost use Rattle.mending.specs.System.{PivotOf, Posed, less};
 ghost use Rattle.lost.specs.Lost.{capacity};
 
 // The first `count` lost positions are data columns, counted from `pivot` on; rows first, first + step, .. are solved by.
-pub struct Plan {
+pub struct System {
     pub lost: Lost,
     pub count: usize,
     pub pivot: usize,
@@ -24,10 +25,10 @@ pub struct Plan {
     pub step: usize,
 }
 
-// The plan for a stripe of which a record's columns are lost.
-pub(crate) fn plan_of(s: Shape, lost: Lost) -> Plan
+// The system for a stripe of which a record's columns are lost.
+pub(crate) fn system_of(s: Shape, lost: Lost) -> System
     requires { ⌜ Ready s lost ⌝ }
-    ensures { λ p. ⌜ (p .lost ≡ lost) × Planned s p ⌝ }
+    ensures { λ p. ⌜ (p .lost ≡ lost) × Posed s p ⌝ }
 {
     let k = s.k;
     let r = s.r;
@@ -36,7 +37,7 @@ pub(crate) fn plan_of(s: Shape, lost: Lost) -> Plan
     let step = row_step(lost, k);
     let at = lost.at;
     let pivot = pivot_of(s.t, count, lost.count, at[0]);
-    Plan {
+    System {
         lost,
         count,
         pivot,
@@ -62,7 +63,7 @@ fn pivot_of(t: usize, count: usize, all: usize, first: usize) -> usize
 }
 
 // g^((i - x) * j) for each lost data column i.
-pub(crate) fn row_weights(p: Plan, x: usize, j: usize) -> [u8; CAPACITY]
+pub(crate) fn row_weights(p: System, x: usize, j: usize) -> [u8; CAPACITY]
     requires { ⌜ (length (p .lost .at) ≡ capacity) × ((p .count ≤ capacity) × ((j < mostParity) × ((v : ℕ) → v < p .count → (x ≤ getD (p .lost .at) v 0) × (getD (p .lost .at) v 0 < 256)))) ⌝ }
     ensures { λ w. ⌜ (length w ≡ capacity) × (take (p .count) w ≡ points j (less x (take (p .count) (p .lost .at)))) ⌝ }
 {

@@ -5,9 +5,9 @@ use mathlib.Core.Path.{_≡_, refl}
 use native.Mathlib.Omega.{arith}
 use lib.ListN.{length, getD, length-set}
 use Rattle.field.specs.Field.{gpow}
-use Rattle.mending.proofs.Planned.{weights-turn, weights-done, small-product}
-use Rattle.mending.proofs.plan.row_weights.Statement.{statement}
-use Rattle.mending.proofs.plan.row_weights.Tie as tie
+use Rattle.mending.proofs.Posed.{weights-turn, weights-done, small-product}
+use Rattle.mending.proofs.system.row_weights.Statement.{statement}
+use Rattle.mending.proofs.system.row_weights.Tie as tie
 use Rattle.lost.specs.Lost.{capacity}
 
 abbrev Inv-loop : tie.InvT-loop

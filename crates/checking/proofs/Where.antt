@@ -3,14 +3,12 @@ use Prim.Native.Nat.{ℕ, _-_, _/_, _%_, _≤_}
 use mathlib.Core.Path.{_≡_, refl, sym, ap, _∙_}
 use mathlib.Core.Bool.{Bool, true, false, cond}
 use mathlib.Core.List.{List, _++_}
-use native.Mathlib.Nat.{suc-ne-zero, add-mul}
+use native.Mathlib.Nat.{suc-ne-zero}
 use native.Mathlib.Omega.{arith}
 use borrow.Author.Tests.{eq-eqb, ne-eqb, eqb-true, eqb-false, lt-ltb, le-ltb}
 use lib.Dec.{eqb}
-use lib.ListN.{length, take, drop, length-append, length-take, length-drop}
-use lib.Seq.{take-at, drop-at}
+use lib.ListN.{length, take, drop, length-take, length-drop}
 use Rattle.field.specs.Bytes.{Bytes}
-use Rattle.field.proofs.Bytes.{append-bytes}
 use Rattle.stripe.specs.declared.Shape.{Shape}
 use Rattle.checking.specs.declared.Wrong.the-variants.{Nowhere, At, Refused}
 use Rattle.stripe.specs.Shape.{shapeRefusal, dataLength, parityLength, mostParityLength}
@@ -19,7 +17,7 @@ use Rattle.stripe.specs.Column.{lentRefusal}
 use Rattle.checking.specs.Compare.{agree, firstDifference}
 use Rattle.checking.specs.Check.{numberOf, whereIs, firstWrong}
 use Rattle.stripe.proofs.Allowed.{allowed}
-use Rattle.stripe.proofs.Places.{parity-length}
+use Rattle.stripe.proofs.Places.{parity-length, joined-codeword, codeword-joined}
 use Rattle.stripe.proofs.Lent.{Lent, lent, lent-both}
 use Rattle.checking.proofs.Comparing.{agree-equal, first-self, first-within}
 
@@ -85,20 +83,12 @@ nowhere-lent s ds ps e = go (eqb (lentRefusal s (length ds) (length ps)) 0) refl
 
 pub nowhere-codeword : (s : Shape) (ds ps : List ℕ) → Bytes ds → Bytes ps → firstWrong s ds ps ≡ Nowhere → Codeword s (ds ++ ps)
 nowhere-codeword s ds ps hd hp e =
-    record {
-      bytes = append-bytes ds ps hd hp;
-      long = length-append ds ps ∙ omega (arith, k .data-long, k .parity-long, add-mul (s .k) (s .r) (s .l));
-      exact = drop-at ds ps (dataLength s) (k .data-long) ∙ nowhere-exact s ds ps none e ∙ ap (parity s) (sym (take-at ds ps (dataLength s) (k .data-long)));
-    }
+    joined-codeword s ds ps hd hp (lent s (length ds) (length ps) none .data-long) (nowhere-exact s ds ps none e)
   where
     none : lentRefusal s (length ds) (length ps) ≡ 0
     none = nowhere-lent s ds ps e
 
-    k : Lent s (length ds) (length ps)
-    k = lent s (length ds) (length ps) none
-
 pub codeword-nowhere : (s : Shape) (ds ps : List ℕ) → shapeRefusal s ≡ 0 → length ds ≡ dataLength s → length ps ≡ parityLength s
     → Codeword s (ds ++ ps) → firstWrong s ds ps ≡ Nowhere
 codeword-nowhere s ds ps h hd hp w =
-    exact-nowhere s ds ps (lent-both s (length ds) (length ps) h hd hp)
-    (sym (drop-at ds ps (dataLength s) hd) ∙ w .exact ∙ ap (parity s) (take-at ds ps (dataLength s) hd))
+    exact-nowhere s ds ps (lent-both s (length ds) (length ps) h hd hp) (codeword-joined s ds ps hd w)

@@ -19,7 +19,7 @@ use Rattle.stripe.specs.declared.Shape.{Shape}
 use Rattle.stripe.specs.Shape.{dataLength, stripeLength}
 use Rattle.stripe.specs.Stripe.{runLength, parityByte, parity, dataOf, Codeword, plainRuns}
 use Rattle.stripe.proofs.Allowed.{Allowed, Prepared}
-use Rattle.stripe.proofs.Places.{place-lt, place-column, place-byte, place-split, place-column-lt, parity-exact, parity-byte-lt, codeword-checks}
+use Rattle.stripe.proofs.Places.{place-lt, place-column, place-byte, place-split, place-column-lt, parity-exact, parity-byte-lt, codeword-of, codeword-checks}
 use Rattle.plan.specs.declared.Kind.{Kind}
 use Rattle.plan.specs.Plan.{kindOf, foldRefusal, plan, wideShape}
 use Rattle.fold.specs.Fold.{foldOf, joined, wideData, cutOut, wideStripe, disagreement, parityNamed, runCarried, carried}
@@ -188,13 +188,8 @@ module _ (s : Shape) (f : ℕ) (zss : List (List ℕ)) (passed : foldRefusal s (
   -- the wide stripe is then a codeword
   pub folded-codeword : Codeword (wideShape s (length zss) f) (wideStripe s (length zss) f zss)
   folded-codeword =
-      record {
-        bytes = wide-bytes;
-        long = wide-long;
-        exact =
-            wide-answer s f zss passed long ∙ folded-parity
-            ∙ ap (parity (wideShape s (length zss) f)) (sym (wide-data s f zss passed long));
-      }
+      codeword-of (wideShape s (length zss) f) (wideStripe s (length zss) f zss) wide-bytes wide-long
+      (wide-answer s f zss passed long ∙ folded-parity ∙ ap (parity (wideShape s (length zss) f)) (sym (wide-data s f zss passed long)))
     where
       wide-bytes : Bytes (wideStripe s (length zss) f zss)
       wide-bytes = wide-all s f zss (λ l h. codewords l h .bytes)

@@ -189,17 +189,23 @@ parity-of-length s xs e = length-drop (dataLength s) xs ∙ omega arith
 pub data-of-length : (s : Shape) (xs : List ℕ) → length xs ≡ stripeLength s → length (dataOf s xs) ≡ dataLength s
 data-of-length s xs e = length-take-le (dataLength s) xs (omega arith)
 
+-- what a codeword is made of, and what it says of its parity: all else about codewords comes from these two
+pub codeword-of : (s : Shape) (xs : List ℕ) → Bytes xs → length xs ≡ stripeLength s → parityOf s xs ≡ parity s (dataOf s xs) → Codeword s xs
+codeword-of s xs b e h = record { bytes = b; long = e; exact = h }
+
+pub codeword-parity : (s : Shape) (xs : List ℕ) → Codeword s xs → parityOf s xs ≡ parity s (dataOf s xs)
+codeword-parity s xs w = w .exact
+
 pub codeword-checks : (s : Shape) (xs : List ℕ) → Codeword s xs → Checks s xs
 codeword-checks s xs w i p hi hp =
-    sym (parity-of-at s xs i p) ∙ ap (λ (ps : List ℕ). getD ps (i * s .l + p) 0) (w .exact) ∙ parity-at s (dataOf s xs) i p hi hp
+    sym (parity-of-at s xs i p)
+    ∙ ap (λ (ps : List ℕ). getD ps (i * s .l + p) 0) (codeword-parity s xs w)
+    ∙ parity-at s (dataOf s xs) i p hi hp
 
 pub checks-codeword : (s : Shape) (xs : List ℕ) → Bytes xs → length xs ≡ stripeLength s → Checks s xs → Codeword s xs
 checks-codeword s xs b e h =
-    record {
-      bytes = b;
-      long = e;
-      exact = parity-exact s (dataOf s xs) (parityOf s xs) (parity-of-length s xs e) (λ i p hi hp. parity-of-at s xs i p ∙ h i p hi hp);
-    }
+    codeword-of s xs b e
+    (parity-exact s (dataOf s xs) (parityOf s xs) (parity-of-length s xs e) (λ i p hi hp. parity-of-at s xs i p ∙ h i p hi hp))
 
 -- ---- data followed by their parity
 
@@ -209,18 +215,23 @@ encoded-data s ds ps e = take-at ds ps (dataLength s) e
 pub encoded-parity : (s : Shape) (ds ps : List ℕ) → length ds ≡ dataLength s → parityOf s (ds ++ ps) ≡ ps
 encoded-parity s ds ps e = drop-at ds ps (dataLength s) e
 
+pub joined-codeword : (s : Shape) (ds ps : List ℕ) → Bytes ds → Bytes ps → length ds ≡ dataLength s → ps ≡ parity s ds → Codeword s (ds ++ ps)
+joined-codeword s ds ps bd bp e h =
+    codeword-of s (ds ++ ps) (append-bytes ds ps bd bp)
+    (length-append ds ps ∙ ap₂ _+_ e (ap length h ∙ parity-length s ds) ∙ omega arith)
+    (encoded-parity s ds ps e ∙ h ∙ ap (parity s) (sym (encoded-data s ds ps e)))
+
+pub codeword-joined : (s : Shape) (ds ps : List ℕ) → length ds ≡ dataLength s → Codeword s (ds ++ ps) → ps ≡ parity s ds
+codeword-joined s ds ps e w =
+    sym (encoded-parity s ds ps e) ∙ codeword-parity s (ds ++ ps) w ∙ ap (parity s) (encoded-data s ds ps e)
+
 pub encoded-codeword : (s : Shape) (ds : List ℕ) → Bytes ds → length ds ≡ dataLength s → Codeword s (ds ++ parity s ds)
-encoded-codeword s ds b e =
-    record {
-      bytes = append-bytes ds (parity s ds) b (parity-bytes s ds);
-      long = length-append ds (parity s ds) ∙ ap₂ _+_ e (parity-length s ds) ∙ omega arith;
-      exact = encoded-parity s ds (parity s ds) e ∙ ap (parity s) (sym (encoded-data s ds (parity s ds) e));
-    }
+encoded-codeword s ds b e = joined-codeword s ds (parity s ds) b (parity-bytes s ds) e refl
 
 -- a codeword is its data followed by their parity
 pub codeword-encoded : (s : Shape) (xs : List ℕ) → Codeword s xs → xs ≡ dataOf s xs ++ parity s (dataOf s xs)
 codeword-encoded s xs w =
-    sym (take-append-drop (dataLength s) xs) ∙ ap (λ (ps : List ℕ). dataOf s xs ++ ps) (w .exact)
+    sym (take-append-drop (dataLength s) xs) ∙ ap (λ (ps : List ℕ). dataOf s xs ++ ps) (codeword-parity s xs w)
 
 -- ---- the places that a piggyback is taken from
 

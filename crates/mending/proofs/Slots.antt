@@ -20,14 +20,14 @@ use Rattle.field.proofs.Cases.{below-or-from}
 use Rattle.lanes.proofs.Onto.{map-at}
 use Rattle.lanes.proofs.Parts.{part-length, part-at, back-length, back-inside, back-outside}
 use Rattle.lost.specs.Lost.{capacity}
-use Rattle.products.proofs.Mixing.{Apart, Within}
+use Rattle.products.proofs.Mixing.{Disjoint, Within}
 use Rattle.mending.specs.Slots.{slotsAt, weighted, Outside, Sources, Gathered, Spaced, OffSlots, Cleared, SetApart, First, Solved}
 
 -- ---- one slot onto another
 
 -- a slot that is none of the sources is apart from each
-pub sources-apart : {e a b d n len : ℕ} → Sources e a b d n len → (v : ℕ) → v < e → Apart a (b + v * d) n len
-sources-apart {e} {a} {b} {d} {n} {len} s v h = record { first = s .target; second = s .source v h; clear = go (below-or-from (b + v * d) a) }
+pub sources-disjoint : {e a b d n len : ℕ} → Sources e a b d n len → (v : ℕ) → v < e → Disjoint a (b + v * d) n len
+sources-disjoint {e} {a} {b} {d} {n} {len} s v h = record { first = s .target; second = s .source v h; clear = go (below-or-from (b + v * d) a) }
   where
     low : b + v * d < a → (a < b + v * d + n) ⊎ (b + v * d + n ≤ a) → (a + n ≤ b + v * d) ⊎ (b + v * d + n ≤ a)
     low l (inr m) = inr m
@@ -49,8 +49,8 @@ sources-apart {e} {a} {b} {d} {n} {len} s v h = record { first = s .target; seco
     go (inl l) = low l (below-or-from a (b + v * d + n))
     go (inr l) = high l (below-or-from 0 n)
 
-pub apart-as : (a b n len len′ : ℕ) → len ≡ len′ → Apart a b n len → Apart a b n len′
-apart-as a b n len len′ e h = subst (Apart a b n) e h
+pub disjoint-as : (a b n len len′ : ℕ) → len ≡ len′ → Disjoint a b n len → Disjoint a b n len′
+disjoint-as a b n len len′ e h = subst (Disjoint a b n) e h
 
 -- ---- weighted sums
 

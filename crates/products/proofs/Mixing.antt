@@ -14,20 +14,20 @@ use Rattle.field.specs.Bytes.{Bytes}
 use Rattle.field.proofs.Mul.{one-mul}
 use Rattle.lanes.specs.Lanes.{onto}
 use borrow.Rule.Slice.PartMut.{putMid}
-use Rattle.products.specs.Within.{apart, within}
+use Rattle.products.specs.Within.{disjoint, within}
 use Rattle.lanes.proofs.Onto.{onto-length, onto-at, onto-past}
 use Rattle.lanes.proofs.Parts.{part-length, part-at, back-length, back-inside, back-outside}
 
 -- ---- n places from a on, and n from b on, of len
 
-pub record Apart (a b n len : ℕ) : Type 0 where
+pub record Disjoint (a b n len : ℕ) : Type 0 where
   pub first : a + n ≤ len
   pub second : b + n ≤ len
   pub clear : (a + n ≤ b) ⊎ (b + n ≤ a)
 
-pub apart-yes : {a b n len : ℕ} → Apart a b n len → apart a b n len ≡ true
-unfolding apart
-apart-yes {a} {b} {n} {len} h = all _ _ _ _ (le-leb (a + n) len (h .first)) (le-leb (b + n) len (h .second)) (either (h .clear))
+pub disjoint-yes : {a b n len : ℕ} → Disjoint a b n len → disjoint a b n len ≡ true
+unfolding disjoint
+disjoint-yes {a} {b} {n} {len} h = all _ _ _ _ (le-leb (a + n) len (h .first)) (le-leb (b + n) len (h .second)) (either (h .clear))
   where
     either : (a + n ≤ b) ⊎ (b + n ≤ a) → (leb (a + n) b ≡ true) ⊎ (leb (b + n) a ≡ true)
     either (inl l) = inl (le-leb (a + n) b l)
@@ -41,35 +41,36 @@ apart-yes {a} {b} {n} {len} h = all _ _ _ _ (le-leb (a + n) len (h .first)) (le-
     all true false z w ex ey ez = ey
     all false y z w ex ey ez = ex
 
-pub apart-is : {a b n len : ℕ} → apart a b n len ≡ true → Apart a b n len
-unfolding apart
-apart-is {a} {b} {n} {len} h = all _ _ _ _ refl refl refl refl h
+pub disjoint-is : {a b n len : ℕ} → disjoint a b n len ≡ true → Disjoint a b n len
+unfolding disjoint
+disjoint-is {a} {b} {n} {len} h = all _ _ _ _ refl refl refl refl h
   where
-    all : (x y z w : Bool) → leb (a + n) len ≡ x → leb (b + n) len ≡ y → leb (a + n) b ≡ z → leb (b + n) a ≡ w → (x && y && (z || w)) ≡ true → Apart a b n len
+    all : (x y z w : Bool) → leb (a + n) len ≡ x → leb (b + n) len ≡ y → leb (a + n) b ≡ z → leb (b + n) a ≡ w → (x && y && (z || w)) ≡ true
+        → Disjoint a b n len
     all true true true w ex ey ez ew h = record { first = leb-true (a + n) len ex; second = leb-true (b + n) len ey; clear = inl (leb-true (a + n) b ez) }
     all true true false true ex ey ez ew h = record { first = leb-true (a + n) len ex; second = leb-true (b + n) len ey; clear = inr (leb-true (b + n) a ew) }
     all true true false false ex ey ez ew h = absurd (true≢false (sym h))
     all true false z w ex ey ez ew h = absurd (true≢false (sym h))
     all false y z w ex ey ez ew h = absurd (true≢false (sym h))
 
-pub apart-no : {a b n len : ℕ} → (Apart a b n len → ⊥) → apart a b n len ≡ false
-apart-no {a} {b} {n} {len} h = go (apart a b n len) refl
+pub disjoint-no : {a b n len : ℕ} → (Disjoint a b n len → ⊥) → disjoint a b n len ≡ false
+disjoint-no {a} {b} {n} {len} h = go (disjoint a b n len) refl
   where
-    go : (t : Bool) → apart a b n len ≡ t → t ≡ false
-    go true e = absurd (h (apart-is e))
+    go : (t : Bool) → disjoint a b n len ≡ t → t ≡ false
+    go true e = absurd (h (disjoint-is e))
     go false e = refl
 
 -- where neither list is too short and the first does not end before the second, the second must end before the first
-pub apart-last : (a b n len : ℕ) → a + n ≤ len → b + n ≤ len → b < a + n → leb (b + n) a ≡ apart a b n len
-apart-last a b n len ha hb h = go (leb (b + n) a) refl
+pub disjoint-last : (a b n len : ℕ) → a + n ≤ len → b + n ≤ len → b < a + n → leb (b + n) a ≡ disjoint a b n len
+disjoint-last a b n len ha hb h = go (leb (b + n) a) refl
   where
     later : (a + n ≤ b) ⊎ (b + n ≤ a) → b + n ≤ a
     later (inl l) = absurd (omega arith)
     later (inr l) = l
 
-    go : (t : Bool) → leb (b + n) a ≡ t → t ≡ apart a b n len
-    go true e = sym (apart-yes (record { first = ha; second = hb; clear = inr (leb-true (b + n) a e) }))
-    go false e = sym (apart-no (λ w. true≢false (sym (le-leb (b + n) a (later (w .clear))) ∙ e)))
+    go : (t : Bool) → leb (b + n) a ≡ t → t ≡ disjoint a b n len
+    go true e = sym (disjoint-yes (record { first = ha; second = hb; clear = inr (leb-true (b + n) a e) }))
+    go false e = sym (disjoint-no (λ w. true≢false (sym (le-leb (b + n) a (later (w .clear))) ∙ e)))
 
 -- ---- the loop
 
@@ -83,7 +84,7 @@ pub within-start : (f : ℕ → ℕ → ℕ) (a b : ℕ) (xs : List ℕ) → Wit
 within-start f a b xs = record { long = refl; on = λ q l. absurd (omega arith); off = λ i h. refl }
 
 -- q places, and the next k
-within-more : {f : ℕ → ℕ → ℕ} {a b q k : ℕ} {xs ys zs : List ℕ} → Apart a b (q + k) (length xs) → Within f a b q xs ys
+within-more : {f : ℕ → ℕ → ℕ} {a b q k : ℕ} {xs ys zs : List ℕ} → Disjoint a b (q + k) (length xs) → Within f a b q xs ys
     → Within f (a + q) (b + q) k ys zs → Within f a b (q + k) xs zs
 within-more {f} {a} {b} {q} {k} {xs} {ys} {zs} h s t = record { long = t .long ∙ s .long; on = λ i m. on i m (ltb i q) refl; off = off }
   where
@@ -114,23 +115,23 @@ within-more {f} {a} {b} {q} {k} {xs} {ys} {zs} h s t = record { long = t .long �
     off i l = t .off i (early i l) ∙ s .off i (late i l)
 
 -- the next k places of those that are apart
-apart-next : {a b m len : ℕ} (q k : ℕ) → q + k ≤ m → Apart a b m len → Apart (a + q) (b + q) k len
-apart-next {a} {b} {m} {len} q k l h = record { first = omega (arith, h .first); second = omega (arith, h .second); clear = go (h .clear) }
+disjoint-next : {a b m len : ℕ} (q k : ℕ) → q + k ≤ m → Disjoint a b m len → Disjoint (a + q) (b + q) k len
+disjoint-next {a} {b} {m} {len} q k l h = record { first = omega (arith, h .first); second = omega (arith, h .second); clear = go (h .clear) }
   where
     go : (a + m ≤ b) ⊎ (b + m ≤ a) → (a + q + k ≤ b + q) ⊎ (b + q + k ≤ a + q)
     go (inl e) = inl (omega arith)
     go (inr e) = inr (omega arith)
 
 -- fewer places
-apart-less : {a b m len : ℕ} (n : ℕ) → n ≤ m → Apart a b m len → Apart a b n len
-apart-less {a} {b} {m} {len} n l h = record { first = omega (arith, h .first); second = omega (arith, h .second); clear = go (h .clear) }
+disjoint-less : {a b m len : ℕ} (n : ℕ) → n ≤ m → Disjoint a b m len → Disjoint a b n len
+disjoint-less {a} {b} {m} {len} n l h = record { first = omega (arith, h .first); second = omega (arith, h .second); clear = go (h .clear) }
   where
     go : (a + m ≤ b) ⊎ (b + m ≤ a) → (a + n ≤ b) ⊎ (b + n ≤ a)
     go (inl e) = inl (omega arith)
     go (inr e) = inr (omega arith)
 
 -- the n bytes from b on, copied into a block ts, and f of those from a on and of the block put back
-pub within-block : (f : ℕ → ℕ → ℕ) (a b n : ℕ) (xs ts ws : List ℕ) → Apart a b n (length xs) → n ≤ 64
+pub within-block : (f : ℕ → ℕ → ℕ) (a b n : ℕ) (xs ts ws : List ℕ) → Disjoint a b n (length xs) → n ≤ 64
     → ts ≡ onto (λ (x y : ℕ). y) (replicate 64 0) (take (b + n - b) (drop b xs)) → ws ≡ onto f (take (a + n - a) (drop a xs)) ts
     → Within f a b n xs (putMid a (a + n - a) xs ws)
 within-block f a b n xs ts ws h few block is =
@@ -209,35 +210,35 @@ within-same {f} {a} {b} {n} {xs} {ys} {zs} y z = ext-getD 0 ys zs (y .long ∙ s
         ap (λ (m : ℕ). getD ys m 0) (sym place) ∙ y .on (i - a) (omega arith) ∙ sym (z .on (i - a) (omega arith)) ∙ ap (λ (m : ℕ). getD zs m 0) place
 
 -- the bytes from a on and from b on are all there, and apart
-pub within-places : (f : ℕ → ℕ → ℕ) (a b n : ℕ) (xs : List ℕ) → Apart a b n (length xs) → Within f a b n xs (within f a b n xs)
+pub within-places : (f : ℕ → ℕ → ℕ) (a b n : ℕ) (xs : List ℕ) → Disjoint a b n (length xs) → Within f a b n xs (within f a b n xs)
 unfolding within
-within-places f a b n xs h = go (apart a b n (length xs)) (apart-yes h)
+within-places f a b n xs h = go (disjoint a b n (length xs)) (disjoint-yes h)
   where
     go : (t : Bool) → t ≡ true → Within f a b n xs (cond t (take a xs ++ onto f (drop a xs) (take n (drop b xs))) xs)
     go true e = landed f a b n xs (h .first) (h .second)
     go false e = absurd (true≢false (sym e))
 
 -- a list that is so
-pub within-made : {f : ℕ → ℕ → ℕ} {a b n : ℕ} {xs ys : List ℕ} → Apart a b n (length xs) → ys ≡ within f a b n xs → Within f a b n xs ys
+pub within-made : {f : ℕ → ℕ → ℕ} {a b n : ℕ} {xs ys : List ℕ} → Disjoint a b n (length xs) → ys ≡ within f a b n xs → Within f a b n xs ys
 within-made {f} {a} {b} {n} {xs} {ys} h e = subst (Within f a b n xs) (sym e) (within-places f a b n xs h)
 
 -- they are not
-pub within-nothing : (f : ℕ → ℕ → ℕ) (a b n : ℕ) (xs : List ℕ) → apart a b n (length xs) ≡ false → within f a b n xs ≡ xs
+pub within-nothing : (f : ℕ → ℕ → ℕ) (a b n : ℕ) (xs : List ℕ) → disjoint a b n (length xs) ≡ false → within f a b n xs ≡ xs
 unfolding within
 within-nothing f a b n xs h = ap (λ (t : Bool). cond t (take a xs ++ onto f (drop a xs) (take n (drop b xs))) xs) h
 
 -- the next k of m places that are apart may be taken
-pub part-ready : {a b m len : ℕ} (q k : ℕ) (ys : List ℕ) → Apart a b m len → q + k ≤ m → length ys ≡ len → apart (a + q) (b + q) k (length ys) ≡ true
-part-ready {a} {b} {m} {len} q k ys h l long = ap (apart (a + q) (b + q) k) long ∙ apart-yes (apart-next q k l h)
+pub part-ready : {a b m len : ℕ} (q k : ℕ) (ys : List ℕ) → Disjoint a b m len → q + k ≤ m → length ys ≡ len → disjoint (a + q) (b + q) k (length ys) ≡ true
+part-ready {a} {b} {m} {len} q k ys h l long = ap (disjoint (a + q) (b + q) k) long ∙ disjoint-yes (disjoint-next q k l h)
 
 -- and are
-pub within-part : {f : ℕ → ℕ → ℕ} {a b m q : ℕ} {xs ys zs : List ℕ} (k : ℕ) → Apart a b m (length xs) → q + k ≤ m → Within f a b q xs ys
+pub within-part : {f : ℕ → ℕ → ℕ} {a b m q : ℕ} {xs ys zs : List ℕ} (k : ℕ) → Disjoint a b m (length xs) → q + k ≤ m → Within f a b q xs ys
     → zs ≡ within f (a + q) (b + q) k ys → Within f a b (q + k) xs zs
 within-part {f} {a} {b} {m} {q} {xs} {ys} {zs} k h l t is =
-    within-more (apart-less (q + k) l h) t (within-made (apart-is (part-ready q k ys h l (t .long))) is)
+    within-more (disjoint-less (q + k) l h) t (within-made (disjoint-is (part-ready q k ys h l (t .long))) is)
 
 -- n places done are all of them
-pub within-done : {f : ℕ → ℕ → ℕ} {a b q : ℕ} {xs zs : List ℕ} (n : ℕ) → Apart a b n (length xs) → q ≡ n → Within f a b q xs zs → zs ≡ within f a b n xs
+pub within-done : {f : ℕ → ℕ → ℕ} {a b q : ℕ} {xs zs : List ℕ} (n : ℕ) → Disjoint a b n (length xs) → q ≡ n → Within f a b q xs zs → zs ≡ within f a b n xs
 within-done {f} {a} {b} {q} {xs} {zs} n h e t = within-same (subst (λ (m : ℕ). Within f a b m xs zs) e t) (within-places f a b n xs h)
 
 -- by the factor 1 the bytes are taken as they are

@@ -7,9 +7,9 @@ use lib.ListN.{length, take, drop}
 use Rattle.lanes.specs.Lanes.{onto}
 
 -- whether the n places from a on and the n from b on are all of len, and none is of both
-unfoldable pub apart : ℕ → ℕ → ℕ → ℕ → Bool
-apart a b n len = leb (a + n) len && leb (b + n) len && (leb (a + n) b || leb (b + n) a)
+unfoldable pub disjoint : ℕ → ℕ → ℕ → ℕ → Bool
+disjoint a b n len = leb (a + n) len && leb (b + n) len && (leb (a + n) b || leb (b + n) a)
 
 -- f of the two bytes at each of the n places from a on and of those from b on; all else stays, and where the two are not apart all stays
 unfoldable pub within : (ℕ → ℕ → ℕ) → ℕ → ℕ → ℕ → List ℕ → List ℕ
-within f a b n xs = cond (apart a b n (length xs)) (take a xs ++ onto f (drop a xs) (take n (drop b xs))) xs
+within f a b n xs = cond (disjoint a b n (length xs)) (take a xs ++ onto f (drop a xs) (take n (drop b xs))) xs

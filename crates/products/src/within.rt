@@ -7,13 +7,13 @@ ghost use mathlib.Core.Bool.{true};
 ghost use Prim.Native.Nat.{ℕ, _≤_};
 ghost use lib.ListN.{length};
 ghost use Rattle.field.specs.Field.{_⊕_, _⊗_};
-ghost use Rattle.products.specs.Within.{apart, within};
+ghost use Rattle.products.specs.Within.{disjoint, within};
 
 // To the n bytes from `to` on c times those from `from` on; nothing where they are not all there, or not apart.
 pub fn mix(a: &mut [u8], to: usize, from: usize, n: usize, c: u8)
     ensures { λ _. ⌜ now (a .exit) ≡ within (λ (x y : ℕ). x ⊕ c ⊗ y) to from n (now (a .entry)) ⌝ }
 {
-    if !are_apart(to, from, n, a.len()) {
+    if !are_disjoint(to, from, n, a.len()) {
         return;
     }
     let mut q = 0;
@@ -28,7 +28,7 @@ pub fn mix(a: &mut [u8], to: usize, from: usize, n: usize, c: u8)
 
 // The same of at most 64 bytes, which are there and apart; by 1 they are taken as they are.
 fn mix_part(a: &mut [u8], to: usize, from: usize, n: usize, c: u8)
-    requires { ⌜ (apart to from n (length (now a)) ≡ true) × (n ≤ 64) ⌝ }
+    requires { ⌜ (disjoint to from n (length (now a)) ≡ true) × (n ≤ 64) ⌝ }
     ensures { λ _. ⌜ now (a .exit) ≡ within (λ (x y : ℕ). x ⊕ c ⊗ y) to from n (now (a .entry)) ⌝ }
 {
     let mut t = [0u8; 64];
@@ -43,8 +43,8 @@ fn mix_part(a: &mut [u8], to: usize, from: usize, n: usize, c: u8)
 }
 
 // Whether the n places from `to` on and those from `from` on are all of len, and apart.
-fn are_apart(to: usize, from: usize, n: usize, len: usize) -> bool
-    ensures { λ v. ⌜ v ≡ apart to from n len ⌝ }
+fn are_disjoint(to: usize, from: usize, n: usize, len: usize) -> bool
+    ensures { λ v. ⌜ v ≡ disjoint to from n len ⌝ }
 {
     if len < n {
         return false;

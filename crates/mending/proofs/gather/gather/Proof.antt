@@ -5,7 +5,7 @@ use mathlib.Core.Path.{sym}
 use native.Mathlib.Omega.{arith}
 use lib.ListN.{length}
 use Rattle.products.proofs.Mixing.{within-made}
-use Rattle.mending.proofs.Slots.{Gathering, gathering-start, gathering-turn, gathering-done, sources-apart, apart-as}
+use Rattle.mending.proofs.Slots.{Gathering, gathering-start, gathering-turn, gathering-done, sources-disjoint, disjoint-as}
 use Rattle.mending.proofs.gather.gather.Statement.{statement}
 use Rattle.mending.proofs.gather.gather.Tie as tie
 
@@ -43,7 +43,7 @@ loop-again c =
     let w = c .before .before .before .before .before .before .before .before .before .pre in (
       omega (arith, t .inv .0),
       gathering-turn (a .weights .now) (a .to) (a .from) (a .d) (a .n) (a .slots .now) (t .slots) (c .before .before .mix .last .0) (t .v) (t .v - 1) _
-          (omega arith) (omega arith) w (t .inv .1) (within-made (apart-as _ _ _ _ _ (sym (t .inv .1 .long)) (sources-apart w (t .v - 1) (omega arith))) (c .before .before .mix .ensures)),
+          (omega arith) (omega arith) w (t .inv .1) (within-made (disjoint-as _ _ _ _ _ (sym (t .inv .1 .long)) (sources-disjoint w (t .v - 1) (omega arith))) (c .before .before .mix .ensures)),
     )
 
 same-length : tie.Need-same-length Inv-loop μ-loop

@@ -5,7 +5,7 @@ use mathlib.Core.Logic.{inr}
 use native.Mathlib.Omega.{arith}
 use native.Mathlib.Nat.{mul-le-mul-right}
 use lib.ListN.{length}
-use Rattle.products.proofs.Mixing.{Apart, within-made}
+use Rattle.products.proofs.Mixing.{Disjoint, within-made}
 use Rattle.mending.proofs.Slots.{Clearing, clearing-start, clearing-turn, clearing-done}
 use Rattle.mending.proofs.solve.clear.Statement.{statement}
 use Rattle.mending.proofs.solve.clear.Tie as tie
@@ -45,7 +45,7 @@ loop-again c =
     let r = w .0 .room (t .u - 1) (omega arith) in
     let some : 1 ≤ t .u - 1 = omega (arith, c .before .before .before .before .loop-test .taken) in
     let back = mul-le-mul-right (a .d) some in
-    let far : Apart (a .at + (t .u - 1) * a .d) (a .at + (t .u - 1) * a .d - a .d) (a .n) (length (t .slots)) = record { first = omega (arith, r, t .inv .1 .1 .long); second = omega (arith, r, t .inv .1 .1 .long); clear = inr (omega (arith, w .0 .wide, back)) } in (
+    let far : Disjoint (a .at + (t .u - 1) * a .d) (a .at + (t .u - 1) * a .d - a .d) (a .n) (length (t .slots)) = record { first = omega (arith, r, t .inv .1 .1 .long); second = omega (arith, r, t .inv .1 .1 .long); clear = inr (omega (arith, w .0 .wide, back)) } in (
       omega (arith, c .before .before .before .before .loop-test .taken),
       (
         omega (arith, t .inv .1 .0),

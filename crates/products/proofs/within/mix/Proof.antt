@@ -6,24 +6,24 @@ use borrow.Author.Needs.{needs}
 use borrow.Author.Tests.{not-true, not-false}
 use lib.ListN.{length}
 use Rattle.field.specs.Field.{_⊕_, _⊗_}
-use Rattle.products.proofs.Mixing.{Apart, Within, apart-is, part-ready, within-nothing, within-start, within-part, within-done}
+use Rattle.products.proofs.Mixing.{Disjoint, Within, disjoint-is, part-ready, within-nothing, within-start, within-part, within-done}
 use Rattle.products.proofs.within.mix.Statement.{statement}
 use Rattle.products.proofs.within.mix.Tie as tie
 
 abbrev Inv-loop : tie.InvT-loop
-Inv-loop a₀ to from n c q₀ a q = (q ≤ n) × (Apart to from n (length a₀) × Within (λ (x y : ℕ). x ⊕ c ⊗ y) to from q a₀ a)
+Inv-loop a₀ to from n c q₀ a q = (q ≤ n) × (Disjoint to from n (length a₀) × Within (λ (x y : ℕ). x ⊕ c ⊗ y) to from q a₀ a)
 
 abbrev μ-loop : tie.MeasureT-loop
 μ-loop a₀ to from n c q₀ a q = n - q
 
-are-apart-requires : tie.Need-are-apart-requires Inv-loop μ-loop
-are-apart-requires c κs = search needs
+are-disjoint-requires : tie.Need-are-disjoint-requires Inv-loop μ-loop
+are-disjoint-requires c κs = search needs
 
 returns : tie.Need-returns Inv-loop μ-loop
-returns c = sym (within-nothing _ _ _ _ _ (sym (c .before .are-apart .ensures) ∙ not-true _ (c .if1 .taken)))
+returns c = sym (within-nothing _ _ _ _ _ (sym (c .before .are-disjoint .ensures) ∙ not-true _ (c .if1 .taken)))
 
 loop-holds : tie.Need-loop-holds Inv-loop μ-loop
-loop-holds c = (search needs, (apart-is (sym (c .before .are-apart .ensures) ∙ not-false _ (c .if1 .left)), within-start _ _ _ _))
+loop-holds c = (search needs, (disjoint-is (sym (c .before .are-disjoint .ensures) ∙ not-false _ (c .if1 .left)), within-start _ _ _ _))
 
 sub-loop : tie.Need-sub-loop Inv-loop μ-loop
 sub-loop c = c .loop .inv .0
@@ -90,7 +90,7 @@ mix-spec =
     (tie.spec
     Inv-loop
     μ-loop
-    are-apart-requires
+    are-disjoint-requires
     returns
     loop-holds
     sub-loop

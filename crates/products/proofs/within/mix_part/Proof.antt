@@ -2,12 +2,12 @@
 use native.Mathlib.Omega.{arith}
 use borrow.Author.Needs.{needs}
 use Rattle.field.specs.Bytes.{Bytes}
-use Rattle.products.proofs.Mixing.{apart-is, within-same, within-places, within-block, within-one}
+use Rattle.products.proofs.Mixing.{disjoint-is, within-same, within-places, within-block, within-one}
 use Rattle.products.proofs.within.mix_part.Statement.{statement}
 use Rattle.products.proofs.within.mix_part.Tie as tie
 
 add-e : tie.Need-add-e
-add-e c = let h = apart-is (c .before .pre .0) in omega (arith, h .second)
+add-e c = let h = disjoint-is (c .before .pre .0) in omega (arith, h .second)
 
 slice-aggregate-copy : tie.Need-slice-aggregate-copy
 slice-aggregate-copy c = search needs
@@ -19,13 +19,13 @@ part-copy-start : tie.Need-part-copy-start
 part-copy-start c = search needs
 
 part-copy-end : tie.Need-part-copy-end
-part-copy-end c = let h = apart-is (c .before .before .before .pre .0) in omega (arith, h .second)
+part-copy-end c = let h = disjoint-is (c .before .before .before .pre .0) in omega (arith, h .second)
 
 copy-requires : tie.Need-copy-requires
 copy-requires c κs = search needs
 
 add-f : tie.Need-add-f
-add-f c = let h = apart-is (c .before .before .before .before .before .before .pre .0) in omega (arith, h .first)
+add-f c = let h = disjoint-is (c .before .before .before .before .before .before .pre .0) in omega (arith, h .first)
 
 sub-add : tie.Need-sub-add
 sub-add c = search needs
@@ -34,7 +34,7 @@ part-add-start : tie.Need-part-add-start
 part-add-start c = search needs
 
 part-add-end : tie.Need-part-add-end
-part-add-end c = let h = apart-is (c .before .before .before .before .before .before .before .pre .0) in omega (arith, h .first)
+part-add-end c = let h = disjoint-is (c .before .before .before .before .before .before .before .pre .0) in omega (arith, h .first)
 
 slice-aggregate-add : tie.Need-slice-aggregate-add
 slice-aggregate-add c = search needs
@@ -49,7 +49,7 @@ returns : tie.Need-returns
 returns c =
     let t = c .before .before .before .before .before .before .before in
     let s = t .before .before .before .before .before in
-    let h = apart-is (s .pre .0) in
+    let h = disjoint-is (s .pre .0) in
     let block = within-block _ _ _ _ (s .args .a .now) _ _ h (s .pre .1) (t .copy .ensures) (c .before .before .add .ensures) in
     let bytes : Bytes (s .args .a .now) = λ i. t .before .before .before .before .slice-known .given i .fits in
     within-same (within-one (c .before .before .before .before .before .if1 .taken) bytes block) (within-places _ _ _ _ _ h)
@@ -61,7 +61,7 @@ part-scale-add-start : tie.Need-part-scale-add-start
 part-scale-add-start c = search needs
 
 part-scale-add-end : tie.Need-part-scale-add-end
-part-scale-add-end c = let h = apart-is (c .before .before .before .before .before .before .before .pre .0) in omega (arith, h .first)
+part-scale-add-end c = let h = disjoint-is (c .before .before .before .before .before .before .before .pre .0) in omega (arith, h .first)
 
 slice-aggregate-scale-add : tie.Need-slice-aggregate-scale-add
 slice-aggregate-scale-add c = search needs
@@ -76,7 +76,7 @@ returns-2 : tie.Need-returns-2
 returns-2 c =
     let t = c .before .before .before .before .before .before .before in
     let s = t .before .before .before .before .before in
-    let h = apart-is (s .pre .0) in
+    let h = disjoint-is (s .pre .0) in
     let block = within-block _ _ _ _ (s .args .a .now) _ _ h (s .pre .1) (t .copy .ensures) (c .before .before .scale-add .ensures) in
     within-same block (within-places _ _ _ _ _ h)
 

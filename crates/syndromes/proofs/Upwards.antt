@@ -103,11 +103,20 @@ one-more j i c m p r f back e =
 -- ---- the columns before x, one after another
 
 -- a column before x ends within the stripe, and the places after it begin there
-pub column-within : (xs : List ℕ) (k l r x from i o : ℕ) → Places xs k l r x from → 1 ≤ r → i < x → o ≡ i * l + from
+pub column-within : (xs : List ℕ) (k l r x from i o : ℕ) → Places xs k l r x from → i < x → o ≡ i * l + from
     → (o + 64 ≤ length xs) × (o + l ≤ length xs)
-column-within xs k l r x from i o h some less e =
-    let c : (suc i + 1) * l ≤ (k + r) * l = mul-le-mul-right l (omega (arith, h .within)) in
+column-within xs k l r x from i o h less e =
+    let c : (suc i + 1) * l ≤ (k + r) * l = mul-le-mul-right l (omega (arith, h .within, h .some)) in
     (omega (arith, h .long, h .fits, c), omega (arith, h .long, h .fits, c))
+
+pub places-at : {xs : List ℕ} {k l r x n : ℕ} (from : ℕ) → Parted xs k l r x n → from + 64 ≤ l → Places xs k l r x from
+places-at from h fits = record { long = omega (arith, h .long); within = omega (arith, h .within); fits = fits; some = h .some; most = h .most }
+
+-- the same places of fewer parity columns
+pub places-less : {xs : List ℕ} {k l r x from : ℕ} (s : ℕ) → 2 ≤ s → s ≤ r → Places xs k l r x from → Places xs k l s x from
+places-less {xs} {k} {l} {r} {x} {from} s some fewer h =
+    let c : (k + s) * l ≤ (k + r) * l = mul-le-mul-right l (omega arith) in
+    record { long = omega (arith, h .long, c); within = h .within; fits = h .fits; some = some; most = omega (arith, h .most) }
 
 -- a of w bytes is as in `BelowIn`, of the i first columns
 pub record Risen (xs : List ℕ) (k l from n w j i : ℕ) (a : List ℕ) : Type 0 where
@@ -168,6 +177,10 @@ plus-block xs b ys at n fits long is =
 pub plus-by : (xs : List ℕ) (at n m : ℕ) (b ys : List ℕ) → n ≡ m → Plus xs at m b ys → Plus xs at n b ys
 plus-by xs at n m b ys same h = subst (λ (z : ℕ). Plus xs at z b ys) (sym same) h
 
+-- row j has room for a block
+pub block-room : {l r n len : ℕ} (from j : ℕ) → j < r → n ≤ 64 → from + 64 ≤ l → len ≡ r * l → j * l + from + n ≤ len
+block-room {l} {r} from j less few fits long = omega (arith, mul-le-mul-right l less, suc-mul j l)
+
 turned : (u p r : ℕ) → u ⊕ (p ⊕ r) ≡ p ⊕ (r ⊕ u)
 turned u p r = simp sums
 
@@ -215,38 +228,47 @@ module _ (xs : List ℕ) (k l x from n : ℕ) (fits : from + n ≤ l) (within : 
         left = λ p past lp. beside i j at p ts b us d a lp plus ∙ h .left p past lp;
       }
 
-  module _ (ts us b c : List ℕ) (r0 : BelowIn xs k l x from n 0 b) (r1 : BelowIn xs k l x from n 1 c) (plus0 : Plus ts from n b us) where
-    pub added-2 : (vs : List ℕ) → Plus us (l + from) n c vs → RowsTo xs k l 2 x from ts → RowsTo xs k l 2 x (from + n) vs
-    added-2 vs plus1 h = record { long = plus1 .long ∙ plus0 .long ∙ h .long; each = each }
+  module _ (r : ℕ) where
+    pub added-rows : (ts us vs b c : List ℕ) → BelowIn xs k l x from n 0 b → BelowIn xs k l x from n 1 c → Plus ts from n b us → Plus us (l + from) n c vs
+        → RowsTo xs k l r x from from ts → RowsTo xs k l r x (from + n) from vs
+    added-rows ts us vs b c r0 r1 plus0 plus1 h = record { long = plus1 .long ∙ plus0 .long ∙ h .long; first = first; last = last }
       where
-        each : (j : ℕ) → j < 2 → RowTo xs k l x (from + n) j vs
-        each zero less = other 1 0 (l + from) (from + n) us c vs (inl (lit< tt)) (omega arith) plus1 (own 0 from ts b us (omega arith) plus0 r0 (h .each 0 (lit< tt)))
-        each (suc zero) less = own 1 (l + from) us c vs (omega arith) plus1 r1 (other 0 1 from from ts b us (inr (lit< tt)) (omega arith) plus0 (h .each 1 (lit< tt)))
-        each (suc (suc j)) less = absurd (not-suc-le-zero (le-of-suc-le-suc (le-of-suc-le-suc less)))
+        past0 : (j : ℕ) → 0 < j → RowTo xs k l x from j ts → RowTo xs k l x from j us
+        past0 j more = other 0 j from from ts b us (inr more) (omega arith) plus0
 
-    pub added-3 : (vs ws d : List ℕ) → BelowIn xs k l x from n 2 d → Plus us (l + from) n c vs → Plus vs (l + l + from) n d ws
-        → RowsTo xs k l 3 x from ts → RowsTo xs k l 3 x (from + n) ws
-    added-3 vs ws d r2 plus1 plus2 h = record { long = plus2 .long ∙ plus1 .long ∙ plus0 .long ∙ h .long; each = each }
+        first : (j : ℕ) → j < 2 → RowTo xs k l x (from + n) j vs
+        first zero less =
+            other 1 0 (l + from) (from + n) us c vs (inl (lit< tt)) (omega arith) plus1 (own 0 from ts b us (omega arith) plus0 r0 (h .first 0 (lit< tt)))
+        first (suc zero) less = own 1 (l + from) us c vs (omega arith) plus1 r1 (past0 1 (lit< tt) (h .first 1 (lit< tt)))
+        first (suc (suc j)) less = absurd (not-suc-le-zero (le-of-suc-le-suc (le-of-suc-le-suc less)))
+
+        last : (j : ℕ) → 2 ≤ j → j < r → RowTo xs k l x from j vs
+        last j two less = other 1 j (l + from) from us c vs (inr (omega arith)) (omega arith) plus1 (past0 j (omega arith) (h .last j two less))
+
+    pub added-row2 : (e : ℕ) (ts us b : List ℕ) → r ≡ 3 → BelowIn xs k l x from n 2 b → Plus ts (l + l + from) n b us
+        → RowsTo xs k l r x e from ts → RowsTo xs k l r x e (from + n) us
+    added-row2 e ts us b three r2 plus h = record { long = plus .long ∙ h .long; first = first; last = last }
       where
-        each : (j : ℕ) → j < 3 → RowTo xs k l x (from + n) j ws
-        each zero less =
-            other 2 0 (l + l + from) (from + n) vs d ws (inl (lit< tt)) (omega arith) plus2
-            (other 1 0 (l + from) (from + n) us c vs (inl (lit< tt)) (omega arith) plus1 (own 0 from ts b us (omega arith) plus0 r0 (h .each 0 (lit< tt))))
-        each (suc zero) less =
-            other 2 1 (l + l + from) (from + n) vs d ws (inl (lit< tt)) (omega arith) plus2
-            (own 1 (l + from) us c vs (omega arith) plus1 r1 (other 0 1 from from ts b us (inr (lit< tt)) (omega arith) plus0 (h .each 1 (lit< tt))))
-        each (suc (suc zero)) less =
-            own 2 (l + l + from) vs d ws (omega arith) plus2 r2
-            (other 1 2 (l + from) from us c vs (inr (lit< tt)) (omega arith) plus1 (other 0 2 from from ts b us (inr (lit< tt)) (omega arith) plus0 (h .each 2 (lit< tt))))
-        each (suc (suc (suc j))) less = absurd (not-suc-le-zero (le-of-suc-le-suc (le-of-suc-le-suc (le-of-suc-le-suc less))))
+        first : (j : ℕ) → j < 2 → RowTo xs k l x e j us
+        first j less = other 2 j (l + l + from) e ts b us (inl less) (omega arith) plus (h .first j less)
 
--- the same of other numbers that are the same
-pub rows-by : (xs : List ℕ) (k l r s x e f : ℕ) (ts : List ℕ) → r ≡ s → e ≡ f → RowsTo xs k l s x f ts → RowsTo xs k l r x e ts
-rows-by xs k l r s x e f ts same end h = subst (λ (z : ℕ). RowsTo xs k l r x z ts) (sym end) (subst (λ (z : ℕ). RowsTo xs k l z x f ts) (sym same) h)
+        last : (j : ℕ) → 2 ≤ j → j < r → RowTo xs k l x (from + n) j us
+        last j two less =
+            let same : 2 ≡ j = omega arith in
+            subst (λ (z : ℕ). RowTo xs k l x (from + n) z us) same (own 2 (l + l + from) ts b us (omega arith) plus r2 (h .last 2 (omega arith) (omega arith)))
+
+-- the same to a number, and of a list, that are the same
+pub rows-by : {xs : List ℕ} {k l r x e f : ℕ} {ts us : List ℕ} → f ≡ e → ts ≡ us → RowsTo xs k l r x f f us → RowsTo xs k l r x e e ts
+rows-by {xs} {k} {l} {r} {x} {e} {f} {ts} {us} end same h =
+    subst (λ (z : ℕ). RowsTo xs k l r x z z ts) end (subst (RowsTo xs k l r x f f) (sym same) h)
 
 -- at all places
-pub apart-done : (xs : List ℕ) (k l r x : ℕ) (ts : List ℕ) → RowsTo xs k l r x l ts → Apart xs k l r x ts
-apart-done xs k l r x ts h = record { long = h .long; at = λ j p less lp. h .each j less .done p lp lp }
+pub apart-done : (xs : List ℕ) (k l r x : ℕ) (ts : List ℕ) → RowsTo xs k l r x l l ts → Apart xs k l r x ts
+apart-done xs k l r x ts h =
+    record {
+      long = h .long;
+      at = λ j p less lp. ⊎-elim (λ d. h .first j d .done p lp lp) (λ d. h .last j d less .done p lp lp) (below-or-from j 2);
+    }
 
 -- ---- the columns from x on, encoded
 
@@ -292,9 +314,14 @@ module _ (s : Shape) (xs os ps : List ℕ) (k l r x : ℕ) (h : Parted xs k l r 
   refused =
       lent-both s (length upper) (length os) passed (upper-long ∙ upper-width ∙ sym (ap₂ _*_ ek el)) (h .room ∙ sym (ap₂ _*_ er el))
 
-  pub encoded-upper : ps ≡ encoded s upper os → RowsTo xs k l r x 0 ps
+  pub encoded-upper : ps ≡ encoded s upper os → RowsTo xs k l r x 0 0 ps
   unfolding rowAt
-  encoded-upper is = record { long = ap length exact ∙ parity-length s upper ∙ ap₂ _*_ er el; each = each }
+  encoded-upper is =
+      record {
+        long = ap length exact ∙ parity-length s upper ∙ ap₂ _*_ er el;
+        first = λ j d. each j (omega (arith, h .some));
+        last = λ j d. each j;
+      }
     where
       exact : ps ≡ parity s upper
       exact = is ∙ sym (encoded-done s upper os refused)

@@ -25,11 +25,13 @@ pub record Parted (xs : List ℕ) (k l r x n : ℕ) : Type 0 where
   pub length-some : 64 ≤ l
   pub length-most : l ≤ mostLength
 
--- 64 places from `from` on, of a stripe that has r parity columns at least
+-- 64 places from `from` on, of a stripe that has two parity columns, or three
 pub record Places (xs : List ℕ) (k l r x from : ℕ) : Type 0 where
   pub long : (k + r) * l ≤ length xs
   pub within : x ≤ k
   pub fits : from + 64 ≤ l
+  pub some : 2 ≤ r
+  pub most : r ≤ mostRows
 
 -- the first n bytes of b, times g^(j*x), are parity column j and row j of the x first columns, at the places from `from` on
 abbrev pub BelowIn : List ℕ → ℕ → ℕ → ℕ → ℕ → ℕ → ℕ → List ℕ → Type 0
@@ -47,6 +49,8 @@ pub record RowTo (xs : List ℕ) (k l x e j : ℕ) (ts : List ℕ) : Type 0 wher
   pub done : (p : ℕ) → p < e → p < l → gpow (j * x) ⊗ getD ts (j * l + p) 0 ≡ getD xs ((k + j) * l + p) 0 ⊕ row j (across xs l p 0 k)
   pub left : (p : ℕ) → e ≤ p → p < l → getD ts (j * l + p) 0 ≡ row j (across xs l p (x * l) (k - x))
 
-pub record RowsTo (xs : List ℕ) (k l r x e : ℕ) (ts : List ℕ) : Type 0 where
+-- rows 0 and 1 are so to the places below d, row 2 to those below e
+pub record RowsTo (xs : List ℕ) (k l r x d e : ℕ) (ts : List ℕ) : Type 0 where
   pub long : length ts ≡ r * l
-  pub each : (j : ℕ) → j < r → RowTo xs k l x e j ts
+  pub first : (j : ℕ) → j < 2 → RowTo xs k l x d j ts
+  pub last : (j : ℕ) → 2 ≤ j → j < r → RowTo xs k l x e j ts

@@ -1,6 +1,8 @@
 -- `fill_apart` meets its contract: the columns from x on are encoded, and what is below is added.
+use mathlib.Core.Path.{sym, subst, _∙_}
 use native.Mathlib.Omega.{arith}
 use native.Mathlib.Nat.{mul-le-mul-right}
+use Rattle.syndromes.specs.Apart.{Parted}
 use Rattle.syndromes.proofs.Upwards.{encoded-upper, apart-done}
 use borrow.Author.Needs.{needs}
 use Rattle.syndromes.proofs.apart.fill_apart.Statement.{statement}
@@ -35,7 +37,7 @@ add-below-requires c κs =
     let s = c .before .before .before .before .before .before .before .before .before in
     let n = c .before .before .before .before .before .before .new .ensures in
     let up = encoded-upper (c .before .before .before .before .before .before .new .result) _ _ (c .before .before .before .encode .last .1 .1 .0) _ _ _ _ (s .pre) (n .0) (n .1 .0) (n .1 .1 .0) (n .1 .1 .1) (c .before .before .before .encode .ensures .1) in
-    (s .pre .long, (omega (arith, s .pre .within), (s .pre .some, (s .pre .most, (s .pre .length-some, up)))))
+    (subst (Parted _ _ _ _ _) (s .pre .room ∙ sym (up .long)) (s .pre), up)
 
 same-length : tie.Need-same-length
 same-length c = search needs

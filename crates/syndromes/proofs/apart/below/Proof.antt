@@ -1,14 +1,13 @@
--- `below2` meets its contract: each array holds its row of the columns before number i.
+-- `below` meets its contract: each array holds its row of the columns before number i.
 use Prim.Native.Nat.{_+_, _*_, _-_, _≤_}
 use mathlib.Core.Path.{_≡_}
 use native.Mathlib.Omega.{arith}
-use lib.Dec.{lit<}
 use lib.ListN.{length}
 use borrow.Author.Needs.{needs}
 use Rattle.field.specs.Bytes.{Bytes}
 use Rattle.syndromes.proofs.Upwards.{Risen, start, turn, done, column-within, back-0, back-1}
-use Rattle.syndromes.proofs.apart.below2.Statement.{statement}
-use Rattle.syndromes.proofs.apart.below2.Tie as tie
+use Rattle.syndromes.proofs.apart.below.Statement.{statement}
+use Rattle.syndromes.proofs.apart.below.Tie as tie
 
 abbrev Inv-loop : tie.InvT-loop
 Inv-loop stripe k l x from p row0₀ row1₀ i₀ o₀ row0 row1 i o = (i ≤ x) × (o ≡ i * l + from) × Risen stripe k l from 64 64 0 i row0 × Risen stripe k l from 64 64 1 i row1
@@ -47,7 +46,7 @@ within : (c : tie.In-loop Inv-loop μ-loop)
 within c =
     let a = c .before .before .before .before .before .args in
     let at = c .before .loop in
-    column-within _ (a .k) (a .l) 2 (a .x) (a .from) (at .i) (at .o) (c .before .before .before .before .before .pre) (lit< tt) (c .loop-test .taken) (at .inv .1)
+    column-within _ (a .k) (a .l) 2 (a .x) (a .from) (at .i) (at .o) (c .before .before .before .before .before .pre) (c .loop-test .taken) (at .inv .1)
 
 add-e : tie.Need-add-e Inv-loop μ-loop
 add-e c = omega (arith, within c .0)
@@ -97,8 +96,8 @@ loop-again c =
 returns : tie.Need-returns Inv-loop μ-loop
 returns c = (done _ _ _ _ _ _ 0 (c .before .loop .i) _ _ (c .before .loop .inv .0) (c .loop-test .left) (c .before .loop .inv .2), done _ _ _ _ _ _ 1 (c .before .loop .i) _ _ (c .before .loop .inv .0) (c .loop-test .left) (c .before .loop .inv .3))
 
-pub below2-spec : {M : Type 1} → statement M
-below2-spec =
+pub below-spec : {M : Type 1} → statement M
+below-spec =
     tie.close
     (tie.spec
     Inv-loop

@@ -9,7 +9,7 @@ use borrow.Author.Needs.{needs}
 use borrow.Author.Tests.{not-true, not-false}
 use denote.Ref.{now}
 use Rattle.record.specs.Layout.{kept, restored}
-use Rattle.record.proofs.Survivors.{left-bytes, kept-room, copied, Passed, passed-length, passed-kept, restore-turn, restore-done, all-left, all-bytes, all-kept}
+use Rattle.record.proofs.Survivors.{left-bytes, kept-room, copied, Passed, passed-length, passed-kept, restore-turn, restore-done, all-left, all-bytes, all-kept, Walk, walk-start, walk-column, walk-survivor, walk-turn}
 use Rattle.record.proofs.columns.fill_columns.Statement.{statement}
 use Rattle.record.proofs.columns.fill_columns.Tie as tie
 

@@ -8,4 +8,3 @@ pub mod Settled
 pub mod Added
 pub mod Restored
 pub mod Unique
-pub mod Nothing

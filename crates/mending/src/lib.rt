@@ -13,8 +13,6 @@ use crate::run::solve_runs;
 use crate::settle::settle;
 use crate::system::system_of;
 use crate::write::write;
-use checking::Wrong;
-use checking::first_wrong;
 use lost::Lost;
 use lost::list_refusal;
 use lost::lost_of;
@@ -22,10 +20,8 @@ use stripe::MOST_PARITY_LENGTH;
 use stripe::Shape;
 use syndromes::syndromes;
 ghost use mathlib.Core.Path.{_≡_};
-ghost use mathlib.Core.List.{[]};
 ghost use lib.ListN.{length};
-ghost use Rattle.stripe.specs.Shape.{shapeRefusal, parityLength, stripeLength};
-ghost use Rattle.checking.specs.Check.{numberOf};
+ghost use Rattle.stripe.specs.Shape.{parityLength, stripeLength};
 ghost use Rattle.mending.specs.Mend.{mendRefusal, Mended};
 ghost use Rattle.lost.specs.Lost.{lostList};
 ghost use Rattle.mending.specs.Restore.{Ready, Restores};
@@ -39,33 +35,8 @@ pub fn mend(s: Shape, stripe: &mut [u8], lost: &[u8]) -> u32
     if no != 0 {
         return no;
     }
-    if lost.len() == 0 {
-        return checked(s, stripe);
-    }
     let w = lost_of(lost);
     restore(s, w, stripe)
-}
-
-// With nothing lost: 0 for a codeword, 8 for a stripe that is none.
-fn checked(s: Shape, stripe: &[u8]) -> u32
-    requires { ⌜ (shapeRefusal s ≡ 0) × (length (now stripe) ≡ stripeLength s) ⌝ }
-    ensures { λ v. ⌜ Restores s [] (now (stripe .entry)) v (now (stripe .entry)) ⌝ }
-{
-    let k = s.k;
-    let l = s.l;
-    let d = k * l;
-    verdict(first_wrong(s, &stripe[..d], &stripe[d..]))
-}
-
-// The number of what the check found.
-fn verdict(w: Wrong) -> u32
-    ensures { λ v. ⌜ v ≡ numberOf w ⌝ }
-{
-    match w {
-        Wrong::Nowhere => 0,
-        Wrong::At(_, _) => 8,
-        Wrong::Refused(n) => n,
-    }
 }
 
 // What is refused before a byte of the stripe is looked at.

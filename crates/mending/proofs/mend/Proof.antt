@@ -1,4 +1,4 @@
--- `mend` meets its contract: refused, checked where nothing is lost, or restored.
+-- `mend` meets its contract: refused, or restored.
 use Prim.Native.Nat.{ℕ}
 use mathlib.Core.Path.{_≡_, refl, sym, ap, subst, _∙_}
 use mathlib.Core.List.{List}
@@ -10,7 +10,6 @@ use Rattle.mending.specs.Mend.{mendRefusal}
 use Rattle.mending.specs.Restore.{Ready, Restores}
 use Rattle.mending.proofs.Restored.{ready, list-same}
 use Rattle.mending.proofs.Passed.{passed}
-use Rattle.mending.proofs.Nothing.{none-named}
 use borrow.Author.Needs.{needs}
 use Rattle.mending.proofs.mend.Statement.{statement}
 use Rattle.mending.proofs.mend.Tie as tie
@@ -23,40 +22,22 @@ returns c =
     let e = c .before .mend-refusal .ensures in
     record { refused = λ n. (e, refl); judged = λ z. absurd (c .if1 .taken (e ∙ z)) }
 
-checked-requires : tie.Need-checked-requires
-checked-requires c κs =
+lost-of-requires : tie.Need-lost-of-requires
+lost-of-requires c κs = search needs
+
+restore-requires : tie.Need-restore-requires
+restore-requires c κs =
     let a = c .before .before .before .before .before .before .args in
-    let p = passed (a .s) (length (a .stripe .now)) (a .lost .now) (sym (c .before .before .before .mend-refusal .ensures) ∙ c .before .before .if1 .left) in
-    (p .shape, p .long)
+    let z : mendRefusal (a .s) (length (a .stripe .now)) (a .lost .now) ≡ 0 = sym (c .before .before .before .mend-refusal .ensures) ∙ c .before .before .if1 .left in
+    (subst (λ (w : Lost). Ready (a .s) w) (sym (c .before .lost-of .ensures)) (ready (a .s) (a .lost .now) (a .stripe .now) z), passed (a .s) (length (a .stripe .now)) (a .lost .now) z .long)
 
 same-length : tie.Need-same-length
 same-length c = search needs
 
 returns-2 : tie.Need-returns-2
 returns-2 c =
-    let a = c .before .before .before .before .before .before .before .args in
-    let z : mendRefusal (a .s) (length (a .stripe .now)) (a .lost .now) ≡ 0 = sym (c .before .before .before .before .mend-refusal .ensures) ∙ c .before .before .before .if1 .left in
-    record {
-      refused = λ n. absurd (n z);
-      judged = λ y. subst (λ (es : List ℕ). Restores (a .s) es (a .stripe .now) (c .checked .result) (a .stripe .now)) (sym (none-named (a .lost .now) (c .before .before .if2 .taken))) (c .checked .ensures);
-    }
-
-lost-of-requires : tie.Need-lost-of-requires
-lost-of-requires c κs = search needs
-
-restore-requires : tie.Need-restore-requires
-restore-requires c κs =
-    let a = c .before .before .before .before .before .before .before .args in
-    let z : mendRefusal (a .s) (length (a .stripe .now)) (a .lost .now) ≡ 0 = sym (c .before .before .before .before .mend-refusal .ensures) ∙ c .before .before .before .if1 .left in
-    (subst (λ (w : Lost). Ready (a .s) w) (sym (c .before .lost-of .ensures)) (ready (a .s) (a .lost .now) (a .stripe .now) z), passed (a .s) (length (a .stripe .now)) (a .lost .now) z .long)
-
-same-length-2 : tie.Need-same-length-2
-same-length-2 c = search needs
-
-returns-3 : tie.Need-returns-3
-returns-3 c =
-    let a = c .before .before .before .before .before .before .before .before .before .before .args in
-    let z : mendRefusal (a .s) (length (a .stripe .now)) (a .lost .now) ≡ 0 = sym (c .before .before .before .before .before .before .before .mend-refusal .ensures) ∙ c .before .before .before .before .before .before .if1 .left in
+    let a = c .before .before .before .before .before .before .before .before .before .args in
+    let z : mendRefusal (a .s) (length (a .stripe .now)) (a .lost .now) ≡ 0 = sym (c .before .before .before .before .before .before .mend-refusal .ensures) ∙ c .before .before .before .before .before .if1 .left in
     let e : lostList (c .before .before .before .before .lost-of .result) ≡ positions (a .lost .now) = ap lostList (c .before .before .before .before .lost-of .ensures) ∙ list-same (a .s) (a .lost .now) (a .stripe .now) z in
     record {
       refused = λ n. absurd (n z);
@@ -69,10 +50,7 @@ mend-spec =
     (tie.spec
     mend-refusal-requires
     returns
-    checked-requires
-    same-length
-    returns-2
     lost-of-requires
     restore-requires
-    same-length-2
-    returns-3)
+    same-length
+    returns-2)

@@ -48,7 +48,7 @@ copied xs from zs to at l fits long is =
 pub left-one : (n c : ℕ) → c < n → n - c ≡ suc (n - (c + 1))
 left-one n c h = omega arith
 
-pub left-bytes : (n c l : ℕ) → c < n → (n - c) * l ≡ l + (n - (c + 1)) * l
+left-bytes : (n c l : ℕ) → c < n → (n - c) * l ≡ l + (n - (c + 1)) * l
 left-bytes n c l h = ap (λ (m : ℕ). m * l) (left-one n c h) ∙ suc-mul (n - (c + 1)) l ∙ omega arith
 
 kept-suc : (es : List ℕ) (c m l : ℕ) → kept es c (suc m) * l ≡ cond (among c es) 0 l + kept es (c + 1) m * l
@@ -60,11 +60,11 @@ kept-suc es c m l =
     go true k e = ap (λ (i : ℕ). i * l) (zero-add k) ∙ e ∙ sym (zero-add (kept es (c + 1) m * l))
     go false k e = ap (λ (i : ℕ). i * l) (omega arith) ∙ suc-mul k l ∙ omega arith
 
-pub kept-bytes : (es : List ℕ) (n c l : ℕ) → c < n → kept es c (n - c) * l ≡ cond (among c es) 0 l + kept es (c + 1) (n - (c + 1)) * l
+kept-bytes : (es : List ℕ) (n c l : ℕ) → c < n → kept es c (n - c) * l ≡ cond (among c es) 0 l + kept es (c + 1) (n - (c + 1)) * l
 kept-bytes es n c l h = ap (λ (m : ℕ). kept es c m * l) (left-one n c h) ∙ kept-suc es c (n - (c + 1)) l
 
 -- a column that is not lost has its bytes
-pub kept-room : (es : List ℕ) (n c l at len : ℕ) → c < n → at + kept es c (n - c) * l ≤ len → among c es ≡ false → at + l ≤ len
+kept-room : (es : List ℕ) (n c l at len : ℕ) → c < n → at + kept es c (n - c) * l ≤ len → among c es ≡ false → at + l ≤ len
 kept-room es n c l at len h r e =
     let p : cond (among c es) 0 l ≡ l = rw e in
     omega (arith, kept-bytes es n c l h)
@@ -107,16 +107,6 @@ Passed l c es to zs at at′ xs xs′ =
 pub passed-length : (l c : ℕ) (es : List ℕ) (to : ℕ) (zs : List ℕ) (at at′ : ℕ) (xs xs′ : List ℕ) → Passed l c es to zs at at′ xs xs′ → length xs′ ≡ length xs
 passed-length l c es to zs at at′ xs xs′ (inl w) = ap length (w .1 .1)
 passed-length l c es to zs at at′ xs xs′ (inr w) = ap length (w .1 .1) ∙ length-sets xs to zs
-
--- what is left of the bytes of the columns
-pub passed-kept : (l c : ℕ) (es : List ℕ) (to : ℕ) (zs : List ℕ) (at at′ : ℕ) (xs xs′ : List ℕ) (n : ℕ) → c < n → Passed l c es to zs at at′ xs xs′
-    → at′ + kept es (c + 1) (n - (c + 1)) * l ≡ at + kept es c (n - c) * l
-passed-kept l c es to zs at at′ xs xs′ n h (inl w) =
-    let p : cond (among c es) 0 l ≡ 0 = ap (λ (b : Bool). cond b 0 l) (w .0) in
-    omega (arith, kept-bytes es n c l h, w .1 .0)
-passed-kept l c es to zs at at′ xs xs′ n h (inr w) =
-    let p : cond (among c es) 0 l ≡ l = ap (λ (b : Bool). cond b 0 l) (w .0) in
-    omega (arith, kept-bytes es n c l h, w .1 .0)
 
 module _ (l c m to : ℕ) (es ys xs : List ℕ) (fits : to + l ≤ length xs) where
   abbrev Turn : List ℕ → List ℕ → Type 0
@@ -161,12 +151,40 @@ restore-done l n c to at es from xs h =
     let p : n - c ≡ 0 = omega arith in
     ap (λ (m : ℕ). take to xs ++ restored l es c m (drop at from) (drop to xs)) p ∙ take-append-drop to xs
 
--- where the loops start
+-- ---- the walk through a stripe of len bytes and a record's columns in a list of room bytes
+
 pub all-left : (n : ℕ) → n - 0 ≡ n
 all-left n = omega arith
 
-pub all-bytes : (n l len : ℕ) → n * l ≤ len → 0 + (n - 0) * l ≤ len
-all-bytes n l len h = omega (arith, ap (λ (m : ℕ). m * l) (all-left n))
+-- column c of n is next: those left begin at `to`, and the surviving ones among them at `at`
+pub record Walk (es : List ℕ) (l n len room c to at : ℕ) : Type 0 where
+  pub within : c ≤ n
+  pub columns : to + (n - c) * l ≤ len
+  pub surviving : at + kept es c (n - c) * l ≤ room
 
-pub all-kept : (es : List ℕ) (n l at len : ℕ) → at + kept es 0 n * l ≤ len → at + kept es 0 (n - 0) * l ≤ len
-all-kept es n l at len h = omega (arith, ap (λ (m : ℕ). kept es 0 m * l) (all-left n))
+pub walk-start : (es : List ℕ) (l n len room at : ℕ) → n * l ≤ len → at + kept es 0 n * l ≤ room → Walk es l n len room 0 0 at
+walk-start es l n len room at all some =
+    record {
+      within = omega arith;
+      columns = omega (arith, ap (λ (m : ℕ). m * l) (all-left n));
+      surviving = omega (arith, ap (λ (m : ℕ). kept es 0 m * l) (all-left n));
+    }
+
+module _ {es : List ℕ} {l n len room c to at : ℕ} (w : Walk es l n len room c to at) (h : c < n) where
+  pub walk-column : to + l ≤ len
+  walk-column = omega (arith, w .columns, left-bytes n c l h)
+
+  pub walk-survivor : among c es ≡ false → at + l ≤ room
+  walk-survivor = kept-room es n c l at room h (w .surviving)
+
+  pub walk-turn : (p at′ : ℕ) (zs xs xs′ : List ℕ) → Passed l c es p zs at at′ xs xs′ → Walk es l n len room (c + 1) (to + l) at′
+  walk-turn p at′ zs xs xs′ v =
+      record { within = omega arith; columns = omega (arith, w .columns, left-bytes n c l h); surviving = omega (arith, w .surviving, left v) }
+    where
+      left : Passed l c es p zs at at′ xs xs′ → at′ + kept es (c + 1) (n - (c + 1)) * l ≡ at + kept es c (n - c) * l
+      left (inl g) =
+          let none : cond (among c es) 0 l ≡ 0 = ap (λ (b : Bool). cond b 0 l) (g .0) in
+          omega (arith, kept-bytes es n c l h, g .1 .0)
+      left (inr g) =
+          let own : cond (among c es) 0 l ≡ l = ap (λ (b : Bool). cond b 0 l) (g .0) in
+          omega (arith, kept-bytes es n c l h, g .1 .0)

@@ -73,11 +73,11 @@ static uint32_t check_wide(void) { return mend(WIDE_K, F, wide[0], -1, -1); }
 /* Folds the month into the wide stripe. The data columns stay on their disks; of the bytes only those of the plan are read. */
 static void fold_month(void)
 {
-    static struct shelf_span spans[425]; /* room for any plan */
+    static struct shelf_span spans[SHELF_MAX_SPANS]; /* room for any plan */
     static uint8_t bytes[STRIPES * R * L];
     uint64_t columns = shelf_plan_columns_read(K, R, T, L, STRIPES, F), total = shelf_plan_bytes_read(K, R, T, L, STRIPES, F);
     size_t at = 0;
-    expect(shelf_plan_spans(K, R, T, L, STRIPES, F, spans, 425) == SHELF_OK, "the fold has a plan");
+    expect(shelf_plan_spans(K, R, T, L, STRIPES, F, spans, SHELF_MAX_SPANS) == SHELF_OK, "the fold has a plan");
     expect(total <= sizeof bytes, "the plan's bytes have room");
     for (uint64_t i = 0; i < columns; i++) {
         memcpy(bytes + at, month[spans[i].stripe][spans[i].position] + spans[i].first, spans[i].length); /* here a daemon reads a disk */
@@ -127,7 +127,7 @@ static void a_stale_block_checked(void)
     go_stale();
     expect(check_stripe(0) == SHELF_OK && check_stripe(2) == SHELF_OK, "the other stripes are codewords");
     expect(check_stripe(1) == SHELF_DISAGREES, "the stale stripe is no codeword");
-    printf("  check of stripe 1: refused %d, no codeword; the fold must wait\n", SHELF_DISAGREES);
+    printf("  check of stripe 1: refused %d, %s; the fold must wait\n", SHELF_DISAGREES, shelf_refusal(SHELF_DISAGREES));
 
     /* With one column taken for lost a spare one still judges: if one column alone is stale, no other choice is accepted. */
     for (int p = 0; p < N; p++) {

@@ -109,7 +109,8 @@ pub first-turn : (xs ys : List ℕ) (q : ℕ) → q < length xs → q < length y
     → q + 1 + firstDifference (drop (q + 1) xs) (drop (q + 1) ys) ≡ firstDifference xs ys
 first-turn xs ys q hx hy same e =
     let f = firstDifference (drop (suc q) xs) (drop (suc q) ys) in
-    let here : firstDifference (drop q xs) (drop q ys) ≡ suc f = first-drop xs ys q hx hy ∙ ap (λ (b : Bool). cond b (suc f) 0) (eq-eqb (getD xs q 0) (getD ys q 0) same) in
+    let here : firstDifference (drop q xs) (drop q ys) ≡ suc f = first-drop xs ys q hx hy
+    ∙ ap (λ (b : Bool). cond b (suc f) 0) (eq-eqb (getD xs q 0) (getD ys q 0) same) in
     let moved : firstDifference (drop (q + 1) xs) (drop (q + 1) ys) ≡ f = ap (λ (n : ℕ). firstDifference (drop n xs) (drop n ys)) (add-one q) in
     omega (arith, here, moved, e)
 
@@ -117,7 +118,8 @@ pub first-found : (xs ys : List ℕ) (q : ℕ) → q < length xs → q < length 
     → q + firstDifference (drop q xs) (drop q ys) ≡ firstDifference xs ys → q ≡ firstDifference xs ys
 first-found xs ys q hx hy differ e =
     let f = firstDifference (drop (suc q) xs) (drop (suc q) ys) in
-    let here : firstDifference (drop q xs) (drop q ys) ≡ 0 = first-drop xs ys q hx hy ∙ ap (λ (b : Bool). cond b (suc f) 0) (ne-eqb (getD xs q 0) (getD ys q 0) differ) in
+    let here : firstDifference (drop q xs) (drop q ys) ≡ 0 = first-drop xs ys q hx hy
+    ∙ ap (λ (b : Bool). cond b (suc f) 0) (ne-eqb (getD xs q 0) (getD ys q 0) differ) in
     omega (arith, here, e)
 
 pub first-done : (xs ys : List ℕ) (q n : ℕ) → n ≤ q → (length xs ≤ n) ⊎ (length ys ≤ n)

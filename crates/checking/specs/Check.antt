@@ -31,4 +31,5 @@ whereIs s n = cond (ltb n (parityLength s)) (At (n / s .l) (n % s .l)) Nowhere
 -- the first index at which the parity lent differs from the parity of the data, or the refusal
 unfoldable pub firstWrong : Shape → List ℕ → List ℕ → Wrong
 firstWrong s ds ps =
-    cond (eqb (lentRefusal s (length ds) (length ps)) 0) (whereIs s (firstDifference ps (parity s ds))) (Refused (lentRefusal s (length ds) (length ps)))
+    cond (eqb (lentRefusal s (length ds) (length ps)) 0) (whereIs s (firstDifference ps (parity s ds)))
+    (Refused (lentRefusal s (length ds) (length ps)))

@@ -34,7 +34,8 @@ added-run xs k l j from a m ps ys fits known is =
       long = back-length ps ys a m ys-long fits;
       inside = λ q h. back-inside ps ys a m ys-long fits q h ∙ ap (λ (x : ℕ). getD ys x 0) (sym (ℕ-zero-add q))
           ∙ g .inside q (omega (arith, part-length ps a m fits))
-          ∙ ap (λ (x : ℕ). x ⊕ row j (across xs l (from + q) 0 k)) (ap (λ (x : ℕ). getD (take (a + m - a) (drop a ps)) x 0) (ℕ-zero-add q) ∙ part-at ps a m q h);
+          ∙ ap (λ (x : ℕ). x ⊕ row j (across xs l (from + q) 0 k))
+          (ap (λ (x : ℕ). getD (take (a + m - a) (drop a ps)) x 0) (ℕ-zero-add q) ∙ part-at ps a m q h);
       outside = back-outside ps ys a m ys-long fits;
     }
   where
@@ -82,7 +83,9 @@ module _ (s : Shape) (ds : List ℕ) (i m : ℕ) (is : m ≡ runLength s) (some 
     column-turn h =
         let e : (j + 1) * m ≡ j * m + m = ap (λ (x : ℕ). x * m) (add-one j) ∙ suc-mul j m in
         record {
-          done = λ p less lp. ⊎-elim (λ b. g .outside (i * s .l + p) (inl (omega arith)) ∙ h .done p b lp) (λ b. run-byte p b (omega arith) h) (below-or-from p (j * m));
+          done =
+              λ p less lp. ⊎-elim (λ b. g .outside (i * s .l + p) (inl (omega arith)) ∙ h .done p b lp) (λ b. run-byte p b (omega arith) h)
+              (below-or-from p (j * m));
           left = λ p past lp. g .outside (i * s .l + p) (inr (omega arith)) ∙ h .left p (omega arith) lp;
         }
 

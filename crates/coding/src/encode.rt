@@ -41,7 +41,8 @@ fn fill_parity(s: Shape, data: &[u8], out: &mut [u8])
 
 // What a prepared stripe holds beside its rows.
 fn add_piggybacks(s: Shape, data: &[u8], out: &mut [u8])
-    requires { ⌜ (encodeRefusal s (length (now «data»)) (length (now out)) ≡ 0) × ((0 < s .t) × ((i : ℕ) → i < s .r → IsRow s (now «data») i (now out))) ⌝ }
+    requires { ⌜ (encodeRefusal s (length (now «data»)) (length (now out)) ≡ 0)
+        × ((0 < s .t) × ((i : ℕ) → i < s .r → IsRow s (now «data») i (now out))) ⌝ }
     ensures { λ _. ⌜ ((i : ℕ) → i < s .r → IsParity s (now («data» .entry)) i (now (out .exit))) ⌝ }
 {
     let r = s.r;
@@ -54,7 +55,8 @@ fn add_piggybacks(s: Shape, data: &[u8], out: &mut [u8])
 
 // To each run j >= r of parity column i, row j of run i.
 fn add_runs(s: Shape, data: &[u8], i: usize, out: &mut [u8])
-    requires { ⌜ (encodeRefusal s (length (now «data»)) (length (now out)) ≡ 0) × ((0 < s .t) × ((i < s .r) × IsRow s (now «data») i (now out))) ⌝ }
+    requires { ⌜ (encodeRefusal s (length (now «data»)) (length (now out)) ≡ 0)
+        × ((0 < s .t) × ((i < s .r) × IsRow s (now «data») i (now out))) ⌝ }
     ensures { λ _. ⌜ IsParity s (now («data» .entry)) i (now (out .exit)) × Beside (s .l) i (now (out .entry)) (now (out .exit)) ⌝ }
 {
     let k = s.k;

@@ -80,7 +80,20 @@ AllMet M =
     × answer-statement.statement M
 
 pub all-met : {M : Type 1} → AllMet M
-all-met = (encode-met.met, mend-met.met, fold-met.met, plan-refusal-met.met, plan-columns-met.met, plan-bytes-met.met, plan-spans-met.met, column-met.met, read-met.met, write-met.met, mend-record-met.met, answer-met.met)
+all-met = (
+  encode-met.met,
+  mend-met.met,
+  fold-met.met,
+  plan-refusal-met.met,
+  plan-columns-met.met,
+  plan-bytes-met.met,
+  plan-spans-met.met,
+  column-met.met,
+  read-met.met,
+  write-met.met,
+  mend-record-met.met,
+  answer-met.met,
+)
 
 -- ---- none asks anything
 
@@ -124,15 +137,18 @@ module _ {M : Type 1} (𝓤 : URA M) (H : Heap 𝓤) (A : Atoms 𝓤) (mem : Mem
 -- ---- what each promises
 
 pub encode-promises : (κs : Lfts 2) (a : ArgsD encode.signature κs) (v : ResD encode.signature κs) (s : AtExit encode.ended κs)
-    → encode-reads.Post κs a v s ≡ Encodes (a .0) (a .1 .0) (a .1 .1 .0) (a .1 .1 .1 .0) (now (a .1 .1 .1 .1 .0)) (now (a .1 .1 .1 .1 .1 .0)) v (now (s .1 .1 .1 .1 .1 .0))
+    → encode-reads.Post κs a v s
+    ≡ Encodes (a .0) (a .1 .0) (a .1 .1 .0) (a .1 .1 .1 .0) (now (a .1 .1 .1 .1 .0)) (now (a .1 .1 .1 .1 .1 .0)) v (now (s .1 .1 .1 .1 .1 .0))
 encode-promises κs a v s = refl
 
 pub mend-promises : (κs : Lfts 2) (a : ArgsD mend.signature κs) (v : ResD mend.signature κs) (s : AtExit mend.ended κs)
-    → mend-reads.Post κs a v s ≡ Mends (a .0) (a .1 .0) (a .1 .1 .0) (a .1 .1 .1 .0) (now (a .1 .1 .1 .1 .0)) (now (a .1 .1 .1 .1 .1 .0)) v (now (s .1 .1 .1 .1 .0))
+    → mend-reads.Post κs a v s
+    ≡ Mends (a .0) (a .1 .0) (a .1 .1 .0) (a .1 .1 .1 .0) (now (a .1 .1 .1 .1 .0)) (now (a .1 .1 .1 .1 .1 .0)) v (now (s .1 .1 .1 .1 .0))
 mend-promises κs a v s = refl
 
 pub fold-promises : (κs : Lfts 2) (a : ArgsD fold.signature κs) (v : ResD fold.signature κs) (s : AtExit fold.ended κs)
-    → fold-reads.Post κs a v s ≡ Folds (a .0) (a .1 .0) (a .1 .1 .0) (a .1 .1 .1 .0) (a .1 .1 .1 .1 .0) (a .1 .1 .1 .1 .1 .0) (now (a .1 .1 .1 .1 .1 .1 .0)) (now (a .1 .1 .1 .1 .1 .1 .1 .0)) v (now (s .1 .1 .1 .1 .1 .1 .1 .0))
+    → fold-reads.Post κs a v s ≡ Folds (a .0) (a .1 .0) (a .1 .1 .0) (a .1 .1 .1 .0) (a .1 .1 .1 .1 .0) (a .1 .1 .1 .1 .1 .0) (now (a .1 .1 .1 .1 .1 .1 .0))
+    (now (a .1 .1 .1 .1 .1 .1 .1 .0)) v (now (s .1 .1 .1 .1 .1 .1 .1 .0))
 fold-promises κs a v s = refl
 
 pub plan-refusal-promises : (κs : Lfts 0) (a : ArgsD plan-refusal.signature κs) (v : ResD plan-refusal.signature κs) (s : AtExit plan-refusal.ended κs)
@@ -170,5 +186,6 @@ answer-promises κs a v s = refl
 -- `shelf_plan_spans` is proved by hand and has no `Reads`
 pub plan-spans-promises : {M : Type 1} (𝓤 : URA M) (H : Heap 𝓤) (A : Atoms 𝓤) (mem : Memory → SProp 𝓤) (run : Routine → Fun 𝓤) (κs : Lfts 1)
     (a : ArgsD plan-spans.signature κs) (v : ResD plan-spans.signature κs) (s : AtExit plan-spans.ended κs)
-    → plan-spans.clauses 𝓤 H A mem run κs a .ensures tt v s ≡ fact 𝓤 (PlanSpans (a .0) (a .1 .0) (a .1 .1 .0) (a .1 .1 .1 .0) (a .1 .1 .1 .1 .0) (a .1 .1 .1 .1 .1 .0) (now (a .1 .1 .1 .1 .1 .1 .0)) v (now (s .1 .1 .1 .1 .1 .1 .0)))
+    → plan-spans.clauses 𝓤 H A mem run κs a .ensures tt v s ≡ fact 𝓤 (PlanSpans (a .0) (a .1 .0) (a .1 .1 .0) (a .1 .1 .1 .0) (a .1 .1 .1 .1 .0)
+    (a .1 .1 .1 .1 .1 .0) (now (a .1 .1 .1 .1 .1 .1 .0)) v (now (s .1 .1 .1 .1 .1 .1 .0)))
 plan-spans-promises 𝓤 H A mem run κs a v s = refl

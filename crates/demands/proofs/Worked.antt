@@ -13,14 +13,14 @@ use Rattle.field.specs.Bytes.{Bytes, tabulate}
 use Rattle.field.specs.Row.{row, rowFrom}
 use Rattle.field.specs.Solve.{moment, apart, cleared, solve}
 use Rattle.stripe.specs.Shape.{shapeRefusal}
-use Rattle.stripe.specs.Stripe.{across, rowAt, runLength, piggyback, parityByte, parity, among, Ascending, Codeword, Agree}
+use Rattle.stripe.specs.Stripe.{across, rowAt, runLength, piggyback, parityByte, parity, among, Ascending, ascending, Codeword, Agree}
 use Rattle.stripe.proofs.Survivors.{countTrue, firstRow, rowStep}
 use Rattle.stripe.proofs.Lost.{lostData}
 use Rattle.stripe.proofs.Errors.{points, errors, mended, patched}
 use Rattle.stripe.proofs.Word.{wordErrors, wordMended}
 use Rattle.stripe.proofs.Mended.{wordBelow, wanted, wordAt, dataMended, stripeMended}
 use Rattle.stripe.proofs.Determined.{mendable}
-use Rattle.lost.specs.Positions.{positions, ascending, listRefusal}
+use Rattle.lost.specs.Positions.{positions, listRefusal}
 use Rattle.mending.specs.Mend.{mendRefusal, Restored, Mended}
 use Rattle.plan.specs.Plan.{foldRefusal, kindOf, columnSpans, kindSpans, spansFrom, plan, columnsEach, bytesEach, columnsRead, bytesRead}
 use Rattle.fold.specs.Fold.{readParity, readRow, runShare, share, foldByte, foldStripes, parts, foldOf, named, cutOut}

@@ -3,7 +3,8 @@ use mathlib.Core.Path.{_≡_, refl, sym, ap, ap₂, _∙_, subst}
 use mathlib.Core.Bool.{Bool}
 use Prim.Native.Nat.{ℕ, zero, suc, _+_, _-_, _≤_, _*_, _/_, _%_, _<_, _^_}
 use native.Mathlib.Nat.{mod-lt, zero-lt-suc, mod-eq-of-lt, div-add-mod', mul-div-cancel, mul-mod-left}
-use native.Mathlib.Nat.{add-zero as ℕ-add-zero, zero-add as ℕ-zero-add, add-comm as ℕ-add-comm, add-assoc as ℕ-add-assoc, zero-mul as ℕ-zero-mul, mul-comm as ℕ-mul-comm, suc-mul, add-suc, suc-add, le-of-suc-le-suc, not-suc-le-zero}
+use native.Mathlib.Nat.{add-zero as ℕ-add-zero, zero-add as ℕ-zero-add, add-comm as ℕ-add-comm, add-assoc as ℕ-add-assoc}
+use native.Mathlib.Nat.{zero-mul as ℕ-zero-mul, mul-comm as ℕ-mul-comm, suc-mul, add-suc, suc-add, le-of-suc-le-suc, not-suc-le-zero}
 use native.Mathlib.Omega.{arith}
 use lib.Bits.{bitXor, differ, xor-step}
 use mathlib.Core.List.{List, [], _∷_}
@@ -245,7 +246,9 @@ log-zero = eqb→eq (getD logarithms 0 0) 0 (log-rule 0 (lit< tt))
 pub log-lt : (a : ℕ) → a < 256 → getD logarithms a 0 < 255
 unfolding ruled
 log-lt zero h = subst (λ (l : ℕ). l < 255) (sym log-zero) (lit< tt)
-log-lt (suc a) h = ltb→lt (getD logarithms (suc a) 0) 255 (both-left (ltb (getD logarithms (suc a) 0) 255) (eqb (getD powers (getD logarithms (suc a) 0) 0) (suc a)) (log-rule (suc a) h))
+log-lt (suc a) h =
+    ltb→lt (getD logarithms (suc a) 0) 255
+    (both-left (ltb (getD logarithms (suc a) 0) 255) (eqb (getD powers (getD logarithms (suc a) 0) 0) (suc a)) (log-rule (suc a) h))
 
 -- each byte but 0 is a power of the generator
 pub log-at : (a : ℕ) → 0 < a → a < 256 → gpow (getD logarithms a 0) ≡ a
@@ -253,7 +256,8 @@ unfolding ruled
 log-at zero p h = omega arith
 log-at (suc a) p h =
     sym (power-at (getD logarithms (suc a) 0) (omega (arith, log-lt (suc a) h)))
-    ∙ eqb→eq (getD powers (getD logarithms (suc a) 0) 0) (suc a) (both-right (ltb (getD logarithms (suc a) 0) 255) (eqb (getD powers (getD logarithms (suc a) 0) 0) (suc a)) (log-rule (suc a) h))
+    ∙ eqb→eq (getD powers (getD logarithms (suc a) 0) 0) (suc a)
+    (both-right (ltb (getD logarithms (suc a) 0) 255) (eqb (getD powers (getD logarithms (suc a) 0) 0) (suc a)) (log-rule (suc a) h))
 
 -- the rule at the entry v of a
 pub log-rules : (a v : ℕ) → a < 256 → v ≡ getD logarithms a 0 → (v < 255) × ((0 < a → gpow v ≡ a) × (a ≡ 0 → v ≡ 0))

@@ -2,7 +2,8 @@
 use mathlib.Core.Path.{_≡_, refl, sym, ap, ap₂, _∙_}
 use mathlib.Core.List.{List, [], _∷_, _++_}
 use Prim.Native.Nat.{ℕ, zero, suc, _+_, _*_, _<_}
-use native.Mathlib.Nat.{add-zero as ℕ-add-zero, zero-add as ℕ-zero-add, zero-mul as ℕ-zero-mul, one-mul as ℕ-one-mul, le-of-suc-le-suc, not-suc-le-zero, add-suc, suc-add, add-mul as ℕ-add-mul, suc-inj, suc-ne-zero}
+use native.Mathlib.Nat.{add-zero as ℕ-add-zero, zero-add as ℕ-zero-add, zero-mul as ℕ-zero-mul, one-mul as ℕ-one-mul}
+use native.Mathlib.Nat.{le-of-suc-le-suc, not-suc-le-zero, add-suc, suc-add, add-mul as ℕ-add-mul, suc-inj, suc-ne-zero}
 use lib.ListN.{length, getD, set}
 use Rattle.field.specs.Field.{_⊕_, _⊗_, gpow}
 use Rattle.field.specs.Bytes.{_⊞_, Bytes}
@@ -25,7 +26,8 @@ pub row-append : (j i : ℕ) (xs ys : List ℕ) → rowFrom j i (xs ++ ys) ≡ r
 unfolding rowFrom
 row-append j i [] ys = sym (zero-add (rowFrom j (0 + i) ys) ∙ ap (λ (k : ℕ). rowFrom j k ys) (ℕ-zero-add i))
 row-append j i (x ∷ xs) ys =
-    ap (λ (r : ℕ). gpow (i * j) ⊗ x ⊕ r) (row-append j (suc i) xs ys ∙ ap (λ (k : ℕ). rowFrom j (suc i) xs ⊕ rowFrom j k ys) (add-suc (length xs) i ∙ sym (suc-add (length xs) i)))
+    ap (λ (r : ℕ). gpow (i * j) ⊗ x ⊕ r)
+    (row-append j (suc i) xs ys ∙ ap (λ (k : ℕ). rowFrom j (suc i) xs ⊕ rowFrom j k ys) (add-suc (length xs) i ∙ sym (suc-add (length xs) i)))
     ∙ sym (add-assoc (gpow (i * j) ⊗ x) (rowFrom j (suc i) xs) (rowFrom j (suc (length xs) + i) ys))
 
 -- a row of two parts

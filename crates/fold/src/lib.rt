@@ -35,7 +35,8 @@ fn fold_verdict(s: Shape, stripes: usize, f: usize, a: usize, b: usize) -> u32
 
 // The fold: from the joined bytes of the plan the f parity columns of the wide stripe. A refusal writes nothing.
 pub fn fold(s: Shape, stripes: usize, f: usize, read: &[u8], parity: &mut [u8]) -> u32
-    ensures { λ v. ⌜ (v ≡ foldVerdict s stripes f (length (now (read .entry))) (length (now (parity .entry)))) × (now (parity .exit) ≡ foldFilled s stripes f (now (read .entry)) (now (parity .entry))) ⌝ }
+    ensures { λ v. ⌜ (v ≡ foldVerdict s stripes f (length (now (read .entry))) (length (now (parity .entry))))
+        × (now (parity .exit) ≡ foldFilled s stripes f (now (read .entry)) (now (parity .entry))) ⌝ }
 {
     let no = fold_verdict(s, stripes, f, read.len(), parity.len());
     if no != 0 {

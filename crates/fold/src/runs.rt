@@ -42,7 +42,8 @@ fn share_of(s: Shape, j: usize, b: usize) -> Share
 
 // The wide parity once a stripe is taken in, from the bytes read of it and its rows.
 pub(crate) fn take_runs(s: Shape, f: usize, first: bool, d: &[u8], rows: &[u8], parity: &mut [u8])
-    requires { ⌜ ReadsParity s f × ((length (now d) ≡ bytesEach (kindOf s f) s f) × (IsRows s f (now d) (now rows) × (length (now parity) ≡ f * s .l))) ⌝ }
+    requires { ⌜ ReadsParity s f
+        × ((length (now d) ≡ bytesEach (kindOf s f) s f) × (IsRows s f (now d) (now rows) × (length (now parity) ≡ f * s .l))) ⌝ }
     ensures { λ _. ⌜ now (parity .exit) ≡ taken s f first (now (d .entry)) (now (parity .entry)) ⌝ }
 {
     let k = s.k;

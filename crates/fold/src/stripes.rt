@@ -40,7 +40,8 @@ fn fill_rows(s: Shape, f: usize, d: &[u8], rows: &mut [u8])
 
 // The wide parity once a stripe is taken in, from the bytes read of it.
 fn take_stripe(s: Shape, f: usize, first: bool, d: &[u8], rows: &mut [u8], parity: &mut [u8])
-    requires { ⌜ ReadsParity s f × ((length (now d) ≡ bytesEach (kindOf s f) s f) × ((length (now rows) ≡ f * partBytes s) × (length (now parity) ≡ f * s .l))) ⌝ }
+    requires { ⌜ ReadsParity s f
+        × ((length (now d) ≡ bytesEach (kindOf s f) s f) × ((length (now rows) ≡ f * partBytes s) × (length (now parity) ≡ f * s .l))) ⌝ }
     ensures { λ _. ⌜ now (parity .exit) ≡ taken s f first (now (d .entry)) (now (parity .entry)) ⌝ }
 {
     fill_rows(s, f, d, rows);
@@ -49,7 +50,9 @@ fn take_stripe(s: Shape, f: usize, first: bool, d: &[u8], rows: &mut [u8], parit
 
 // The wide parity of n stripes, with room for the rows of one.
 fn take_all(s: Shape, n: usize, f: usize, d: &[u8], rows: &mut [u8], parity: &mut [u8])
-    requires { ⌜ ReadsParity s f × ((foldRefusal s n f ≡ 0) × ((length (now d) ≡ bytesRead s n f) × ((length (now rows) ≡ f * partBytes s) × (length (now parity) ≡ f * s .l)))) ⌝ }
+    requires { ⌜ ReadsParity s f
+        × ((foldRefusal s n f ≡ 0)
+        × ((length (now d) ≡ bytesRead s n f) × ((length (now rows) ≡ f * partBytes s) × (length (now parity) ≡ f * s .l)))) ⌝ }
     ensures { λ _. ⌜ now (parity .exit) ≡ foldOf s n f (now (d .entry)) ⌝ }
 {
     let each = d.len() / n;

@@ -91,9 +91,11 @@ module _ (s : Shape) (f : Allowed s) (p : System) (w : Posed s p) where
   pub slot-ends : (j : ℕ) → j < s .r → j * s .l + s .l ≤ parityLength s
   slot-ends j h = omega (arith, mul-le-mul-right (s .l) h, add-mul j 1 (s .l))
 
-  pub added-turn : (v j : ℕ) (slots xs ys d : List ℕ) → v < p .lost .count → length xs ≡ stripeLength s → length slots ≡ parityLength s → MendedBelow s p v slots xs ys
+  pub added-turn : (v j : ℕ) (slots xs ys d : List ℕ) → v < p .lost .count → length xs ≡ stripeLength s → length slots ≡ parityLength s
+      → MendedBelow s p v slots xs ys
       → j ≡ slotRow s p v (getD (p .lost .at) v 0)
-      → d ≡ onto (λ (x y : ℕ). x ⊕ y) (take (getD (p .lost .at) v 0 * s .l + s .l - getD (p .lost .at) v 0 * s .l) (drop (getD (p .lost .at) v 0 * s .l) ys)) (take (j * s .l + s .l - j * s .l) (drop (j * s .l) slots))
+      → d ≡ onto (λ (x y : ℕ). x ⊕ y) (take (getD (p .lost .at) v 0 * s .l + s .l - getD (p .lost .at) v 0 * s .l) (drop (getD (p .lost .at) v 0 * s .l) ys))
+      (take (j * s .l + s .l - j * s .l) (drop (j * s .l) slots))
       → MendedBelow s p (v + 1) slots xs (putMid (getD (p .lost .at) v 0 * s .l) (getD (p .lost .at) v 0 * s .l + s .l - getD (p .lost .at) v 0 * s .l) ys d)
   added-turn v j slots xs ys d hv lx ls t ej ed = record { long = back-length ys d a (s .l) d-long a-fits ∙ t .long; own = own; other = other }
     where
@@ -136,7 +138,8 @@ module _ (s : Shape) (f : Allowed s) (p : System) (w : Posed s p) where
           go (inl l) = kept (getD (p .lost .at) u 0) y (λ e. omega (arith, e, lost-apart u v l hv)) hy ∙ t .own u y l hy
           go (inr l) =
               let e : u ≡ v = omega arith in
-              subst (λ (x : ℕ). rowByte s zs (getD (p .lost .at) x 0) y ≡ rowByte s xs (getD (p .lost .at) x 0) y ⊕ rowByte s slots (slotRow s p x (getD (p .lost .at) x 0)) y) (sym e)
+              subst (λ (x : ℕ). rowByte s zs (getD (p .lost .at) x 0) y
+              ≡ rowByte s xs (getD (p .lost .at) x 0) y ⊕ rowByte s slots (slotRow s p x (getD (p .lost .at) x 0)) y) (sym e)
               (changed y hy
               ∙ ap₂ (λ (x z : ℕ). x ⊕ rowByte s slots z y) (t .other i y hy (λ x hx q. omega (arith, q, lost-apart x v hx hv))) ej)
 
@@ -160,7 +163,8 @@ module _ (s : Shape) (f : Allowed s) (p : System) (w : Posed s p) where
         go false e =
             let m : among c (lostIn p) ≡ false = sym (lost-data-among (s .k) c (lostIn p) hc) ∙ e in
             added-kept c y hy m ∙ before
-            ∙ word-mended-agrees (s .k) (s .r) (lostIn p) (f .data-most) (f .parity-most) (w .ascend) (w .fits) (dataAt s xs y) (across-length xs (s .l) y 0 (s .k))
+            ∙ word-mended-agrees (s .k) (s .r) (lostIn p) (f .data-most) (f .parity-most) (w .ascend) (w .fits) (dataAt s xs y)
+            (across-length xs (s .l) y 0 (s .k))
             (wanted s (lostIn p) xs y) c hc m
         go true e =
             let i : (v : ℕ) × ((v < length (gone s p)) × (c ≡ getD (gone s p) v 0)) = among-index c (gone s p) e in
@@ -169,7 +173,8 @@ module _ (s : Shape) (f : Allowed s) (p : System) (w : Posed s p) where
             ap (λ (x : ℕ). rowByte s ys x y) here ∙ a .own (i .0) y (omega (arith, w .many)) hy
             ∙ ap₂ _⊕_ (ap (λ (x : ℕ). rowByte s xs x y) (sym here) ∙ before ∙ ap (λ (x : ℕ). getD (dataAt s xs y) x 0) (i .1 .1))
             (ap (λ (x : ℕ). rowByte s slots x y) (slot-data (i .0) _ hv) ∙ t .errors y hy (i .0) hv)
-            ∙ sym (word-mended-own (s .k) (s .r) (lostIn p) (f .data-most) (f .parity-most) (w .ascend) (w .fits) (dataAt s xs y) (across-length xs (s .l) y 0 (s .k))
+            ∙ sym (word-mended-own (s .k) (s .r) (lostIn p) (f .data-most) (f .parity-most) (w .ascend) (w .fits) (dataAt s xs y)
+            (across-length xs (s .l) y 0 (s .k))
             (wanted s (lostIn p) xs y) (i .0) (i .1 .0))
             ∙ ap (λ (x : ℕ). getD (wordMended (s .k) (lostIn p) (dataAt s xs y) (wanted s (lostIn p) xs y)) x 0) (sym (i .1 .1))
 

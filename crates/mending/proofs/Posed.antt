@@ -22,7 +22,8 @@ use Rattle.stripe.specs.Stripe.{runs, among, Ascending, plainRuns}
 use Rattle.stripe.proofs.Allowed.{Allowed, allowed, plain-runs}
 use Rattle.stripe.proofs.Survivors.{Spread, firstRow, rowStep}
 use Rattle.stripe.proofs.Lost.{lostData, rowLost, lost-data-ascending, ascending-at}
-use Rattle.stripe.proofs.Errors.{points, points-length, points-bytes, points-weights, points-apart, errorRow, error-moment, errors, errors-length, errors-bytes, syndrome}
+use Rattle.stripe.proofs.Errors.{points, points-length, points-bytes, points-weights, points-apart}
+use Rattle.stripe.proofs.Errors.{errorRow, error-moment, errors, errors-length, errors-bytes, syndrome}
 use Rattle.stripe.proofs.Word.{wordErrors, word-spread}
 use Rattle.lost.specs.declared.Lost.{Lost}
 use Rattle.mending.specs.declared.system.System.{System}
@@ -209,7 +210,8 @@ module _ (s : Shape) (f : Allowed s) (p : System) (w : Posed s p) where
       has u l =
           error-moment a d u (gone s p) es
           ∙ solved (points d (gone s p)) (points a (gone s p)) (λ v. syndrome ms t (a + d * v)) (points-length d (gone s p) ∙ sym (points-length a (gone s p)))
-          (points-bytes d (gone s p)) (points-bytes a (gone s p)) (points-apart d 0 (s .k) (gone s p) (spread .step-some) (spread .step-most) (f .data-most) ordered)
+          (points-bytes d (gone s p)) (points-bytes a (gone s p))
+          (points-apart d 0 (s .k) (gone s p) (spread .step-some) (spread .step-most) (f .data-most) ordered)
           (points-weights a (gone s p)) (λ v. ht (a + d * v)) u (subst (λ (n : ℕ). u < n) (sym (points-length d (gone s p))) l)
 
       row-is : (u : ℕ) → u < p .count → y (p .first + p .step * u) ≡ moment (points (p .step) is′) (points (p .first) is′) es u
@@ -265,7 +267,9 @@ weights-done at ws e x j v he few room long h =
     each : (u : ℕ) → u < e → getD (take e ws) u 0 ≡ getD (points j (less x (take e at))) u 0
     each u l =
         getD-take e ws u 0 l ∙ h u (omega arith)
-        ∙ ap gpow (ap (λ (z : ℕ). (z - x) * j) (sym (getD-take e at u 0 l)) ∙ ap (λ (z : ℕ). z * j) (sym (less-at x (take e at) u (omega (arith, many)))) ∙ ℕ-mul-comm _ j)
+        ∙ ap gpow (ap (λ (z : ℕ). (z - x) * j) (sym (getD-take e at u 0 l))
+        ∙ ap (λ (z : ℕ). z * j) (sym (less-at x (take e at) u (omega (arith, many))))
+        ∙ ℕ-mul-comm _ j)
         ∙ sym (points-at j (less x (take e at)) u (omega (arith, many, less-length x (take e at))))
 
 -- the system from its parts
@@ -302,7 +306,8 @@ posed s w e x a d r he front from ea ed =
     data-only : e ≡ w .count → (v : ℕ) → v < w .count → getD (lostList w) v 0 < s .k
     data-only q v h =
         subst (λ (l : List ℕ). getD l v 0 < s .k) (sym all)
-        (ascending-at v 0 (s .k) (lostData (s .k) (lostList w)) (lost-data-ascending (s .k) 0 (columns s) (lostList w) (r .ascend)) (omega (arith, long, ap length all)) .1)
+        (ascending-at v 0 (s .k) (lostData (s .k) (lostList w)) (lost-data-ascending (s .k) 0 (columns s) (lostList w) (r .ascend))
+        (omega (arith, long, ap length all)) .1)
       where
         all : lostList w ≡ lostData (s .k) (lostList w)
         all = ap (λ (n : ℕ). take n (w .at)) (sym q) ∙ front
@@ -311,7 +316,13 @@ posed s w e x a d r he front from ea ed =
     below v h (inl z) = omega arith
     below zero h (inr q) = omega (arith, q .1 .1 .1)
     below (suc v) h (inr q) =
-        omega (arith, q .1 .1 .1, at 0 (omega arith), at (suc v) (omega arith), ascending-apart 0 (suc v) 0 (columns s) (lostList w) (r .ascend) (omega arith) (omega (arith, long)))
+        omega (
+          arith,
+          q .1 .1 .1,
+          at 0 (omega arith),
+          at (suc v) (omega arith),
+          ascending-apart 0 (suc v) 0 (columns s) (lostList w) (r .ascend) (omega arith) (omega (arith, long)),
+        )
 
     plain : plainRuns s < runs s → PivotOf (s .t) e (w .count) (getD (w .at) 0 0) x → x ≡ 0
     plain h (inl z) = z

@@ -18,7 +18,8 @@ use Rattle.stripe.specs.Shape.{shapeRefusal, columns, dataLength, stripeLength}
 use Rattle.stripe.specs.Stripe.{runLength, parityByte, dataOf, among, Ascending, plainRuns}
 use Rattle.stripe.proofs.Allowed.{Allowed, allowed}
 use Rattle.stripe.proofs.Places.{place-lt, by-places, across-first, data-of-length, checks-codeword}
-use Rattle.stripe.proofs.Mended.{checkAt, wanted, wordAt, wanted-below, wanted-from, dataMended, data-mended-length, data-mended-at, mended-parity-below, mended-parity-from, parity-wanted, mended-agrees-exactly}
+use Rattle.stripe.proofs.Mended.{checkAt, wanted, wordAt, wanted-below, wanted-from, dataMended, data-mended-length}
+use Rattle.stripe.proofs.Mended.{data-mended-at, mended-parity-below, mended-parity-from, parity-wanted, mended-agrees-exactly}
 use Rattle.stripe.proofs.Determined.{mendable}
 use Rattle.mending.specs.declared.system.System.{System}
 use Rattle.lost.specs.Lost.{lostList, lostOf, capacity}
@@ -44,7 +45,8 @@ module _ (s : Shape) (h : shapeRefusal s ≡ 0) (p : System) (w : Posed s p) (xs
   none-restored wrong zs r =
       wrong
       (λ j y hj hy m.
-      mended-agrees-exactly s facts (lostIn p) (w .ascend) (w .fits) xs bytes .0 (mendable s h (lostIn p) (w .ascend) (w .fits) xs bytes .0 (zs, (r .codeword, r .agrees))) y hy j hj m)
+      mended-agrees-exactly s facts (lostIn p) (w .ascend) (w .fits) xs bytes .0
+      (mendable s h (lostIn p) (w .ascend) (w .fits) xs bytes .0 (zs, (r .codeword, r .agrees))) y hy j hj m)
 
   module _ (slots ys : List ℕ) (bs : Bytes slots) (by : Bytes ys) (long : length ys ≡ stripeLength s) (t : SettledBelow s p xs (s .r) slots)
       (a : MendedBelow s p (p .lost .count) slots xs ys) where

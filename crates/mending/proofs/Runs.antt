@@ -65,7 +65,8 @@ module _ (s : Shape) (f : Allowed s) (p : System) (w : Posed s p) (xs : List ℕ
       (wanted s (lostIn p) xs y) j
 
   module _ (b : ℕ) (hb : b < runs s) (ys us zs : List ℕ) (by : Bytes ys) (bu : Bytes us) (t : SolvedBelow s p xs b ys) (c : Carried s p b (s .r) ys us)
-      (g : Solved (points (p .step) (less (p .pivot) (gone s p))) (points (p .first) (less (p .pivot) (gone s p))) (p .first * s .l + b * runLength s) (p .step * s .l) (runLength s) us zs) where
+      (g : Solved (points (p .step) (less (p .pivot) (gone s p))) (points (p .first) (less (p .pivot) (gone s p))) (p .first * s .l + b * runLength s)
+      (p .step * s .l) (runLength s) us zs) where
     run-ends : b * runLength s + runLength s ≤ s .l
     run-ends = omega (arith, f .cut, mul-le-mul-right (runLength s) hb, add-mul b 1 (runLength s))
 
@@ -135,7 +136,8 @@ module _ (s : Shape) (f : Allowed s) (p : System) (w : Posed s p) (xs : List ℕ
     kept : (j y : ℕ) → y < s .l → Other p j ⊎ Outside (b * runLength s) (runLength s) y → rowByte s zs j y ≡ rowByte s us j y
     kept j y hy o =
         g .off (j * s .l + y)
-        (λ v l k. subst (λ (z : ℕ). Outside z (runLength s) (j * s .l + y)) (at v) (place-off j (p .first + p .step * v) y (b * runLength s) (runLength s) (s .l) hy run-ends (apart v k o)))
+        (λ v l k. subst (λ (z : ℕ). Outside z (runLength s) (j * s .l + y)) (at v)
+        (place-off j (p .first + p .step * v) y (b * runLength s) (runLength s) (s .l) hy run-ends (apart v k o)))
       where
         at : (v : ℕ) → (p .first + p .step * v) * s .l + b * runLength s ≡ p .first * s .l + b * runLength s + v * (p .step * s .l)
         at v = omega arith
@@ -162,7 +164,8 @@ module _ (s : Shape) (f : Allowed s) (p : System) (w : Posed s p) (xs : List ℕ
             go (inl l) = same (p .first + p .step * v) y (row-below s f p w v hv) hy (inl l) ∙ t .errors y l hy v hv
             go (inr l) =
                 let e : place (y - b * runLength s) ≡ y = omega arith in
-                subst (λ (z : ℕ). rowByte s zs (p .first + p .step * v) z ≡ getD (errorsAt s p xs z) v 0) e (solved-here (y - b * runLength s) v (omega (arith, next)) hv)
+                subst (λ (z : ℕ). rowByte s zs (p .first + p .step * v) z ≡ getD (errorsAt s p xs z) v 0) e
+                (solved-here (y - b * runLength s) v (omega (arith, next)) hv)
 
         rows : (j y : ℕ) → j < s .r → Other p j → y < (b + 1) * runLength s → y < s .l → Lacks s p xs zs j y
         rows j y hj o h hy = go (below-or-from y (b * runLength s))
@@ -215,10 +218,17 @@ module _ (s : Shape) (f : Allowed s) (p : System) (w : Posed s p) (b j m : ℕ) 
         few = omega (arith, w .many, w .few);
         small = omega (arith, f .parity-length);
         target = omega (arith, column-ends j hj, ends b (omega arith));
-        source = λ v h. omega (arith, column-ends (p .first + p .step * v) (row-below s f p w v h), ends j (omega arith), slot-place (s .l) (p .first) (p .step) (j * runLength s) 0 v);
+        source =
+            λ v h. omega (
+              arith,
+              column-ends (p .first + p .step * v) (row-below s f p w v h),
+              ends j (omega arith),
+              slot-place (s .l) (p .first) (p .step) (j * runLength s) 0 v,
+            );
         apart = λ v q h k.
             subst (λ (z : ℕ). Outside (j * s .l + b * runLength s) (runLength s) z) (sym (slot-place (s .l) (p .first) (p .step) (j * runLength s) q v))
-            (place-off (p .first + p .step * v) j (j * runLength s + q) (b * runLength s) (runLength s) (s .l) (omega (arith, ends j (omega arith))) (ends b (omega arith)) (inr (inl (omega (arith, earlier j hj)))));
+            (place-off (p .first + p .step * v) j (j * runLength s + q) (b * runLength s) (runLength s) (s .l) (omega (arith, ends j (omega arith)))
+            (ends b (omega arith)) (inr (inl (omega (arith, earlier j hj)))));
       }
 
   pub carried-turn : (ws ys zs : List ℕ) → ws ≡ points b (gone s p) → Gathered ws (j * s .l + b * m) (p .first * s .l + j * m) (p .step * s .l) m ys zs
@@ -236,7 +246,8 @@ module _ (s : Shape) (f : Allowed s) (p : System) (w : Posed s p) (b j m : ℕ) 
       errors-kept : (i q v : ℕ) → i < s .r → q < runLength s → v < p .count
           → rowByte s ys (p .first + p .step * v) (i * runLength s + q) ≡ rowByte s xs (p .first + p .step * v) (i * runLength s + q)
       errors-kept i q v hi hq hv =
-          t .off (p .first + p .step * v) (i * runLength s + q) (row-below s f p w v hv) (omega (arith, ends i (omega arith))) (inr (inr (inl (omega (arith, earlier i hi)))))
+          t .off (p .first + p .step * v) (i * runLength s + q) (row-below s f p w v hv) (omega (arith, ends i (omega arith)))
+          (inr (inr (inl (omega (arith, earlier i hi)))))
 
       on : (i q : ℕ) → plainRuns s ≤ b → i < j + 1 → q < runLength s
           → rowByte s zs i (b * runLength s + q)
@@ -250,7 +261,9 @@ module _ (s : Shape) (f : Allowed s) (p : System) (w : Posed s p) (b j m : ℕ) 
               let e : i ≡ j = omega arith in
               ap (λ (z : ℕ). getD zs z 0) (ap (λ (z : ℕ). z * s .l + (b * runLength s + q)) e ∙ omega arith) ∙ g .on q hq
               ∙ ap₂ _⊕_
-              (ap (λ (z : ℕ). getD ys z 0) (omega arith) ∙ t .off j (b * runLength s + q) hj (omega (arith, ends b (omega arith))) (inr (inl (omega arith))) ∙ ap (λ (z : ℕ). rowByte s xs z (b * runLength s + q)) (sym e))
+              (ap (λ (z : ℕ). getD ys z 0) (omega arith)
+              ∙ t .off j (b * runLength s + q) hj (omega (arith, ends b (omega arith))) (inr (inl (omega arith)))
+              ∙ ap (λ (z : ℕ). rowByte s xs z (b * runLength s + q)) (sym e))
               (weighted-same (points b (gone s p)) _ _
               (λ v h. ap (λ (z : ℕ). getD ys z 0) (slot-place (s .l) (p .first) (p .step) (j * runLength s) q v)
               ∙ errors-kept j q v hj hq (omega (arith, points-length b (gone s p), count-is s f p w))
@@ -301,7 +314,13 @@ run-spaced s p b m len f w hm hb long =
       wide = omega (arith, f .run-most, hm, mul-le-mul-right (s .l) (step-some s f p w));
       room = λ v h.
           subst (λ (z : ℕ). p .first * s .l + b * z + v * (p .step * s .l) + z ≤ len) (sym hm)
-          (omega (arith, mul-le-mul-right (s .l) (row-below s f p w v h), add-mul (p .first + p .step * v) 1 (s .l), slot-place (s .l) (p .first) (p .step) (b * runLength s) 0 v, ends));
+          (omega (
+            arith,
+            mul-le-mul-right (s .l) (row-below s f p w v h),
+            add-mul (p .first + p .step * v) 1 (s .l),
+            slot-place (s .l) (p .first) (p .step) (b * runLength s) 0 v,
+            ends,
+          ));
     }
   where
     ends : b * runLength s + runLength s ≤ s .l
@@ -313,17 +332,22 @@ pub record RunSolved (s : Shape) (p : System) (b : ℕ) (ys zs : List ℕ) : Typ
   pub long : length zs ≡ length ys
   pub more : (xs : List ℕ) → Bytes xs → SolvedBelow s p xs b ys → SolvedBelow s p xs (b + 1) zs
 
-pub run-solved : (s : Shape) (f : Allowed s) (p : System) (w : Posed s p) (b m : ℕ) (bs ws ys us zs : List ℕ) → m ≡ runLength s → b < runs s → Bytes ys → Bytes us
+pub run-solved : (s : Shape) (f : Allowed s) (p : System) (w : Posed s p) (b m : ℕ) (bs ws ys us zs : List ℕ) → m ≡ runLength s → b < runs s → Bytes ys
+    → Bytes us
     → bs ≡ points (p .step) (less (p .pivot) (gone s p)) → ws ≡ points (p .first) (less (p .pivot) (gone s p))
     → Carried s p b (s .r) ys us → Solved bs ws (p .first * s .l + b * m) (p .step * s .l) m us zs → RunSolved s p b ys zs
 run-solved s f p w b m bs ws ys us zs hm hb by bu eb ew c g =
     record { long = g .long ∙ c .long; more = λ xs bytes t. run-turn s f p w xs bytes b hb ys us zs by bu t c g′ }
   where
-    g′ : Solved (points (p .step) (less (p .pivot) (gone s p))) (points (p .first) (less (p .pivot) (gone s p))) (p .first * s .l + b * runLength s) (p .step * s .l) (runLength s) us zs
-    g′ = subst (λ (z : ℕ). Solved (points (p .step) (less (p .pivot) (gone s p))) (points (p .first) (less (p .pivot) (gone s p))) (p .first * s .l + b * z) (p .step * s .l) z us zs) hm
+    g′ : Solved (points (p .step) (less (p .pivot) (gone s p))) (points (p .first) (less (p .pivot) (gone s p))) (p .first * s .l + b * runLength s)
+        (p .step * s .l) (runLength s) us zs
+    g′ =
+        subst (λ (z : ℕ). Solved (points (p .step) (less (p .pivot) (gone s p))) (points (p .first) (less (p .pivot) (gone s p))) (p .first * s .l + b * z)
+        (p .step * s .l) z us zs) hm
         (subst (λ (l : List ℕ). Solved (points (p .step) (less (p .pivot) (gone s p))) l (p .first * s .l + b * m) (p .step * s .l) m us zs) ew
         (subst (λ (l : List ℕ). Solved l ws (p .first * s .l + b * m) (p .step * s .l) m us zs) eb g))
 
-pub powers-length : (s : Shape) (f : Allowed s) (p : System) (w : Posed s p) (j : ℕ) (bs : List ℕ) → bs ≡ points j (less (p .pivot) (gone s p)) → length bs ≡ p .count
+pub powers-length : (s : Shape) (f : Allowed s) (p : System) (w : Posed s p) (j : ℕ) (bs : List ℕ) → bs ≡ points j (less (p .pivot) (gone s p))
+    → length bs ≡ p .count
 powers-length s f p w j bs e =
     ap length e ∙ points-length j (less (p .pivot) (gone s p)) ∙ less-length (p .pivot) (gone s p) ∙ sym (count-is s f p w)

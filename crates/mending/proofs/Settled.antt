@@ -156,7 +156,8 @@ module _ (s : Shape) (f : Allowed s) (p : System) (w : Posed s p) (j : ℕ) (hj 
             go (inl l) = t .fine i y l hi n hy m
             go (inr l) =
                 let e : j ≡ i = omega arith in
-                subst (λ (z : ℕ). Fine s (lostIn p) xs z y) e (zero-fine y hy (zero-row (subst (λ (z : ℕ). among (s .k + z) (lostIn p) ≡ false) (sym e) m) y hy))
+                subst (λ (z : ℕ). Fine s (lostIn p) xs z y) e
+                (zero-fine y hy (zero-row (subst (λ (z : ℕ). among (s .k + z) (lostIn p) ≡ false) (sym e) m) y hy))
 
   pub row-settles : (v : Bool) → Bytes zs → Says v (among (s .k + j) (lostIn p) ≡ false → (y : ℕ) → y < s .l → rowByte s zs j y ≡ 0) → RowSettles s p j ys v zs
   row-settles v bz says =
@@ -176,10 +177,13 @@ finish-sources s f p w j hj o len long =
       few = omega (arith, w .many, w .few);
       small = omega (arith, f .parity-length);
       target = omega (arith, mul-le-mul-right (s .l) hj, add-mul j 1 (s .l));
-      source = λ v h. omega (arith, mul-le-mul-right (s .l) (row-below s f p w v h), add-mul (p .first + p .step * v) 1 (s .l), slot-place (s .l) (p .first) (p .step) 0 0 v);
+      source =
+          λ v h. omega
+          (arith, mul-le-mul-right (s .l) (row-below s f p w v h), add-mul (p .first + p .step * v) 1 (s .l), slot-place (s .l) (p .first) (p .step) 0 0 v);
       apart = λ v q h k.
           subst (λ (z : ℕ). Outside z (s .l) (p .first * s .l + v * (p .step * s .l) + q)) (omega arith)
-          (subst (λ (z : ℕ). Outside (j * s .l + 0) (s .l) z) (at v q) (place-off (p .first + p .step * v) j q 0 (s .l) (s .l) k (omega arith) (inl (λ e. o (v, (h, e))))));
+          (subst (λ (z : ℕ). Outside (j * s .l + 0) (s .l) z) (at v q)
+          (place-off (p .first + p .step * v) j q 0 (s .l) (s .l) k (omega arith) (inl (λ e. o (v, (h, e))))));
     }
   where
     at : (v q : ℕ) → (p .first + p .step * v) * s .l + q ≡ p .first * s .l + v * (p .step * s .l) + q
@@ -200,7 +204,8 @@ settled-all s p xs ys j h k t = let e : j ≡ s .r = omega arith in subst (λ (x
 
 -- the rows solved by have the values wanted
 solved-rows : (s : Shape) (f : Allowed s) (p : System) (w : Posed s p) (xs : List ℕ) (y : ℕ) → Bytes xs → (v : ℕ) → v < p .count
-    → row (firstRow (rowLost (s .k) (lostIn p)) + rowStep (rowLost (s .k) (lostIn p)) * v) (wordMended (s .k) (lostIn p) (dataAt s xs y) (wanted s (lostIn p) xs y))
+    → row (firstRow (rowLost (s .k) (lostIn p)) + rowStep (rowLost (s .k) (lostIn p)) * v)
+    (wordMended (s .k) (lostIn p) (dataAt s xs y) (wanted s (lostIn p) xs y))
     ≡ wanted s (lostIn p) xs y (firstRow (rowLost (s .k) (lostIn p)) + rowStep (rowLost (s .k) (lostIn p)) * v)
 unfolding wordMended
 solved-rows s f p w xs y bytes v hv =
@@ -213,5 +218,9 @@ all-fine s f p w xs ys bytes t j y hj hy m = go (solver-or-other p j)
     go : Solver p j ⊎ Other p j → Fine s (lostIn p) xs j y
     go (inr o) = t .fine j y hj hj o hy m
     go (inl k) =
-        let e : firstRow (rowLost (s .k) (lostIn p)) + rowStep (rowLost (s .k) (lostIn p)) * k .0 ≡ j = ap₂ (λ (a d : ℕ). a + d * k .0) (sym (w .first-is)) (sym (w .step-is)) ∙ k .1 .1 in
-        ap (row j) (word-is s (lostIn p) xs y) ∙ subst (λ (z : ℕ). row z (wordMended (s .k) (lostIn p) (dataAt s xs y) (wanted s (lostIn p) xs y)) ≡ wanted s (lostIn p) xs y z) e (solved-rows s f p w xs y bytes (k .0) (k .1 .0))
+        let e : firstRow (rowLost (s .k) (lostIn p)) + rowStep (rowLost (s .k) (lostIn p)) * k .0 ≡ j = ap₂ (λ (a d : ℕ). a + d * k .0) (sym (w .first-is))
+        (sym (w .step-is))
+        ∙ k .1 .1 in
+        ap (row j) (word-is s (lostIn p) xs y)
+        ∙ subst (λ (z : ℕ). row z (wordMended (s .k) (lostIn p) (dataAt s xs y) (wanted s (lostIn p) xs y)) ≡ wanted s (lostIn p) xs y z) e
+        (solved-rows s f p w xs y bytes (k .0) (k .1 .0))

@@ -225,7 +225,8 @@ first-made ws a d n i xs us zs fits g ei ez =
     long : length zs ≡ n
     long = ap length ez ∙ length-map part (λ (x : ℕ). i ⊗ x) ∙ part-length us a n fits
 
-    first : (q : ℕ) → q < n → getD (putMid a (a + n - a) us zs) (a + q) 0 ≡ inverseOf (getD ws 0 0) ⊗ (getD xs (a + q) 0 ⊕ weighted (drop 1 ws) (slotsAt xs (a + d) d q))
+    first : (q : ℕ) → q < n
+        → getD (putMid a (a + n - a) us zs) (a + q) 0 ≡ inverseOf (getD ws 0 0) ⊗ (getD xs (a + q) 0 ⊕ weighted (drop 1 ws) (slotsAt xs (a + d) d q))
     first q h =
         back-inside us zs a n long fits q h ∙ ap (λ (l : List ℕ). getD l q 0) ez ∙ map-at (λ (x : ℕ). i ⊗ x) part q (omega (arith, part-length us a n fits))
         ∙ ap₂ _⊗_ ei (part-at us a n q h ∙ first-gathered ws a d n xs us g q h)
@@ -298,7 +299,8 @@ module _ (b w : ℕ) (bs ws : List ℕ) (a d n : ℕ) (xs ys ap′ us out : List
       f .first q hq
       ∙ ap₂ (λ (x y : ℕ). inverseOf w ⊗ (x ⊕ y)) (first-kept q hq)
       (weighted-moment bs ws (values q) (slotsAt us (a + d) d q) same
-      (sym (solve-length bs (apart b bs ws) (cleared b (slotsAt xs a d q)) (apart-length b bs ws same))) (solve-bytes bs (apart b bs ws) (cleared b (slotsAt xs a d q)))
+      (sym (solve-length bs (apart b bs ws) (cleared b (slotsAt xs a d q)) (apart-length b bs ws same)))
+      (solve-bytes bs (apart b bs ws) (cleared b (slotsAt xs a d q)))
       (λ v hv. values-are q v hq hv))
 
   pub solved-step : Solved (b ∷ bs) (w ∷ ws) a d n xs out

@@ -68,8 +68,10 @@ pub record Carried (s : Shape) (p : System) (b j : ℕ) (ys zs : List ℕ) : Typ
   pub long : length zs ≡ length ys
   pub on : (i q : ℕ) → plainRuns s ≤ b → i < j → q < runLength s
       → rowByte s zs i (b * runLength s + q)
-      ≡ rowByte s ys i (b * runLength s + q) ⊕ weighted (points b (gone s p)) (λ v. rowByte s ys (p .first + p .step * v) (i * runLength s + q))
-  pub off : (i y : ℕ) → i < s .r → y < s .l → (b < plainRuns s) ⊎ ((j ≤ i) ⊎ Outside (b * runLength s) (runLength s) y) → rowByte s zs i y ≡ rowByte s ys i y
+      ≡ rowByte s ys i (b * runLength s + q)
+      ⊕ weighted (points b (gone s p)) (λ v. rowByte s ys (p .first + p .step * v) (i * runLength s + q))
+  pub off : (i y : ℕ) → i < s .r → y < s .l → (b < plainRuns s) ⊎ ((j ≤ i) ⊎ Outside (b * runLength s) (runLength s) y)
+      → rowByte s zs i y ≡ rowByte s ys i y
 
 -- the mended data have the row that is wanted, at each place in each row that survives
 abbrev pub Fine : Shape → List ℕ → List ℕ → ℕ → ℕ → Type 0
@@ -105,5 +107,6 @@ slotRow s p v i = cond (ltb v (p .count)) (p .first + p .step * v) (i - s .k)
 pub record MendedBelow (s : Shape) (p : System) (e : ℕ) (slots xs ys : List ℕ) : Type 0 where
   pub long : length ys ≡ length xs
   pub own : (v y : ℕ) → v < e → y < s .l
-      → rowByte s ys (getD (p .lost .at) v 0) y ≡ rowByte s xs (getD (p .lost .at) v 0) y ⊕ rowByte s slots (slotRow s p v (getD (p .lost .at) v 0)) y
+      → rowByte s ys (getD (p .lost .at) v 0) y
+      ≡ rowByte s xs (getD (p .lost .at) v 0) y ⊕ rowByte s slots (slotRow s p v (getD (p .lost .at) v 0)) y
   pub other : (c y : ℕ) → y < s .l → ((v : ℕ) → v < e → c ≡ getD (p .lost .at) v 0 → ⊥) → rowByte s ys c y ≡ rowByte s xs c y

@@ -62,7 +62,8 @@ pub record SetApart (bs ws ws′ : List ℕ) : Type 0 where
 -- the first slot plus the others by their weights, times the inverse of the first weight; all else stays
 pub record First (ws : List ℕ) (a d n : ℕ) (xs ys : List ℕ) : Type 0 where
   pub long : length ys ≡ length xs
-  pub first : (q : ℕ) → q < n → getD ys (a + q) 0 ≡ inverseOf (getD ws 0 0) ⊗ (getD xs (a + q) 0 ⊕ weighted (drop 1 ws) (slotsAt xs (a + d) d q))
+  pub first : (q : ℕ) → q < n
+      → getD ys (a + q) 0 ≡ inverseOf (getD ws 0 0) ⊗ (getD xs (a + q) 0 ⊕ weighted (drop 1 ws) (slotsAt xs (a + d) d q))
   pub others : (i : ℕ) → Outside a n i → getD ys i 0 ≡ getD xs i 0
 
 -- at each place the values whose sums stood there; all else stays

@@ -36,7 +36,8 @@ Other p j = Solver p j → ⊥
 abbrev pub PivotOf : ℕ → ℕ → ℕ → ℕ → ℕ → Type 0
 PivotOf t e n i x = (x ≡ 0) ⊎ ((t ≡ 0) × ((0 < e) × ((e ≡ n) × (x ≡ i))))
 
--- the columns are the lost ones and the rows the first that survive; positions are counted from 0 on unless the stripe is plain and no row is lost
+-- the columns are the lost ones and the rows the first that survive; positions
+-- are counted from 0 on unless the stripe is plain and no row is lost
 pub record Posed (s : Shape) (p : System) : Type 0 where
   pub room : length (p .lost .at) ≡ capacity
   pub few : p .lost .count ≤ capacity

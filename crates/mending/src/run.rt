@@ -63,8 +63,12 @@ pub(crate) fn add_row(
     off: usize,
     n: usize,
 )
-    requires { ⌜ Buffers s p (length (now slots)) × ((x ≤ p .pivot) × ((j < mostParity) × ((off ≤ mostParityLength) × Sources (p .count) to (p .first * s .l + off) (p .step * s .l) n (length (now slots))))) ⌝ }
-    ensures { λ _. ⌜ Gathered (powers j (less x (gone s p))) to (p .first * s .l + off) (p .step * s .l) n (now (slots .entry)) (now (slots .exit)) ⌝ }
+    requires { ⌜ Buffers s p (length (now slots))
+        × ((x ≤ p .pivot)
+        × ((j < mostParity)
+        × ((off ≤ mostParityLength) × Sources (p .count) to (p .first * s .l + off) (p .step * s .l) n (length (now slots))))) ⌝ }
+    ensures { λ _. ⌜ Gathered (powers j (less x (gone s p))) to (p .first * s .l + off) (p .step * s .l) n (now (slots .entry))
+        (now (slots .exit)) ⌝ }
 {
     let l = s.l;
     let count = p.count;

@@ -62,7 +62,8 @@ fn solves(p: System, j: usize) -> bool
 // Whether row j is lost or zero.
 fn clean(s: Shape, p: System, j: usize, slots: &[u8]) -> bool
     requires { ⌜ (p .lost .count ≤ capacity) × ((s .k ≤ mostData) × ((j < mostParity) × (j * s .l + s .l ≤ length (now slots)))) ⌝ }
-    ensures { λ v. ⌜ Says v (among (s .k + j) (lostList (p .lost)) ≡ false → (y : ℕ) → y < s .l → getD (now (slots .entry)) (j * s .l + y) 0 ≡ 0) ⌝ }
+    ensures { λ v. ⌜ Says v
+        (among (s .k + j) (lostList (p .lost)) ≡ false → (y : ℕ) → y < s .l → getD (now (slots .entry)) (j * s .l + y) 0 ≡ 0) ⌝ }
 {
     let l = s.l;
     if is_lost(p.lost, s.k + j) {

@@ -64,7 +64,9 @@ fn pivot_of(t: usize, count: usize, all: usize, first: usize) -> usize
 
 // g^((i - x) * j) for each lost data column i.
 pub(crate) fn row_weights(p: System, x: usize, j: usize) -> [u8; CAPACITY]
-    requires { ⌜ (length (p .lost .at) ≡ capacity) × ((p .count ≤ capacity) × ((j < mostParity) × ((v : ℕ) → v < p .count → (x ≤ getD (p .lost .at) v 0) × (getD (p .lost .at) v 0 < 256)))) ⌝ }
+    requires { ⌜ (length (p .lost .at) ≡ capacity)
+        × ((p .count ≤ capacity)
+        × ((j < mostParity) × ((v : ℕ) → v < p .count → (x ≤ getD (p .lost .at) v 0) × (getD (p .lost .at) v 0 < 256)))) ⌝ }
     ensures { λ w. ⌜ (length w ≡ capacity) × (take (p .count) w ≡ points j (less x (take (p .count) (p .lost .at)))) ⌝ }
 {
     let lost = p.lost;

@@ -61,7 +61,8 @@ onto-none d Malformed h = refl
 pub onto-value : (d v next : ℕ) (g : Number) → onto d g ≡ Value v next → (u : ℕ) × (g ≡ Value u next) × (u ≡ 0 → ⊥) × (v ≡ d + 128 * u)
 onto-value d v next (Value u n) e = go (eqb u 0) refl e
   where
-    go : (b : Bool) → eqb u 0 ≡ b → cond b Malformed (Value (d + 128 * u) n) ≡ Value v next → (w : ℕ) × (Value u n ≡ Value w next) × (w ≡ 0 → ⊥) × (v ≡ d + 128 * w)
+    go : (b : Bool) → eqb u 0 ≡ b → cond b Malformed (Value (d + 128 * u) n) ≡ Value v next
+        → (w : ℕ) × (Value u n ≡ Value w next) × (w ≡ 0 → ⊥) × (v ≡ d + 128 * w)
     go true p f = absurd (let z : _≡_ {A = ℕ} 0 1 = cc in omega arith)
     go false p f = (u, cc, eqb-false u 0 p, cc)
 onto-value d v next Cut e = absurd (let z : _≡_ {A = ℕ} 0 1 = cc in omega arith)
@@ -84,7 +85,8 @@ pub data View (m : ℕ) (s : List ℕ) (at : ℕ) : Type 0 where
 
 pub view : (m : ℕ) (s : List ℕ) (at : ℕ) → View m s at
 view m s at =
-    ⊎-elim (λ l. ⊎-elim (λ b. last l b (sym (at-last (suc m) s at (λ e. omega arith) l b))) (λ b. more l b (sym (at-more-suc l b))) (below-or-from (getD s at 0) 128))
+    ⊎-elim (λ l. ⊎-elim (λ b. last l b (sym (at-last (suc m) s at (λ e. omega arith) l b))) (λ b. more l b (sym (at-more-suc l b)))
+    (below-or-from (getD s at 0) 128))
     (λ h. ended h (sym (at-end (suc m) s at (λ e. omega arith) h))) (below-or-from at (length s))
   where
     at-more-suc : at < length s → 128 ≤ getD s at 0 → onto (getD s at 0 - 128) (groupsAt m s (at + 1)) ≡ groupsAt (suc m) s at

@@ -17,7 +17,8 @@ pub read-number-unique : (κs : Lfts 1) (a : ArgsD read-number.signature κs) (r
     → read-number-reads.Post κs a r s → read-number-reads.Post κs a r′ s′ → r ≡ r′
 read-number-unique κs a r r′ s s′ p q = p ∙ sym q
 
-pub number-refusal-unique : (κs : Lfts 0) (a : ArgsD number-refusal.signature κs) (r r′ : ResD number-refusal.signature κs) (s s′ : AtExit number-refusal.ended κs)
+pub number-refusal-unique : (κs : Lfts 0) (a : ArgsD number-refusal.signature κs) (r r′ : ResD number-refusal.signature κs)
+    (s s′ : AtExit number-refusal.ended κs)
     → number-refusal-reads.Post κs a r s → number-refusal-reads.Post κs a r′ s′ → r ≡ r′
 number-refusal-unique κs a r r′ s s′ p q = p ∙ sym q
 

@@ -113,7 +113,8 @@ read-next m s q at v h e ih =
     ∙ ap (λ (x : ℕ). Value v x) n
     ∙ ap (λ (xs : List ℕ). Value v (at + length xs)) (sym g)
 
-groups-read : (m : ℕ) (s q : List ℕ) (at v : ℕ) → v < 128 ^ suc m → drop at s ≡ groups (suc m) v ++ q → groupsAt (suc m) s at ≡ Value v (at + length (groups (suc m) v))
+groups-read : (m : ℕ) (s q : List ℕ) (at v : ℕ) → v < 128 ^ suc m → drop at s ≡ groups (suc m) v ++ q
+    → groupsAt (suc m) s at ≡ Value v (at + length (groups (suc m) v))
 groups-read zero s q at v h e = read-last zero s q at v h e
 groups-read (suc m) s q at v h e =
     go (below-or-from v 128) (groups-read m s q (at + 1) (v / 128) (omega (arith, pow-suc 128 (suc m))))
@@ -246,7 +247,8 @@ groups-cut (suc m) s at h e = go (view (suc m) s at) (groups-cut m s (at + 1) h)
     go (more l b f) ih = completed-more m s at h l b (ih (onto-cut (getD s at 0 - 128) (groupsAt (suc m) s (at + 1)) (sym f ∙ e)))
 
 -- what is cut is a proper beginning of some number's bytes
-pub cut-begins : (s : List ℕ) (at : ℕ) → Bytes s → numberAt s at ≡ Cut → (v : ℕ) × (b : ℕ) × (rest : List ℕ) × (v ≤ 4294967295) × (written v ≡ drop at s ++ (b ∷ rest))
+pub cut-begins : (s : List ℕ) (at : ℕ) → Bytes s → numberAt s at ≡ Cut
+    → (v : ℕ) × (b : ℕ) × (rest : List ℕ) × (v ≤ 4294967295) × (written v ≡ drop at s ++ (b ∷ rest))
 unfolding Completed
 cut-begins s at h e =
     let c = groups-cut 4 s at h (limited-cut (groupsAt 5 s at) e) in
@@ -257,7 +259,8 @@ more-than-one : {v x : ℕ} (xs : List ℕ) (b : ℕ) (rest : List ℕ) → v �
 more-than-one [] b rest e = let z : _≡_ {A = ℕ} 0 1 = cc in omega arith
 more-than-one (y ∷ xs) b rest e = let z : _≡_ {A = ℕ} 0 1 = cc in omega arith
 
-begin-next : (m : ℕ) (s : List ℕ) (at v b : ℕ) (rest : List ℕ) (x : ℕ) (xs : List ℕ) → 128 ≤ v → (128 + v % 128) ∷ groups m (v / 128) ≡ x ∷ (xs ++ (b ∷ rest)) → drop at s ≡ x ∷ xs
+begin-next : (m : ℕ) (s : List ℕ) (at v b : ℕ) (rest : List ℕ) (x : ℕ) (xs : List ℕ) → 128 ≤ v → (128 + v % 128) ∷ groups m (v / 128) ≡ x ∷ (xs ++ (b ∷ rest))
+    → drop at s ≡ x ∷ xs
     → (groups m (v / 128) ≡ xs ++ (b ∷ rest) → drop (at + 1) s ≡ xs → groupsAt m s (at + 1) ≡ Cut) → groupsAt (suc m) s at ≡ Cut
 begin-next m s at v b rest x xs g e d ih =
     let h = drop-head s at x xs d in

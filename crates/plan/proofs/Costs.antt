@@ -133,7 +133,8 @@ bandwidth n k r f h m = go (below-or-from f k)
     go (inl x) = simp (few, lt-leb k f x)
     go (inr x) =
         let e : k ≡ f = omega arith in
-        simp (few, le-leb k f x) (mul-assoc n (min k f) f ∙ ap (λ (y : ℕ). n * y) (ap (λ (y : ℕ). y * f) (fewest k f m) ∙ sym (ap (λ (y : ℕ). r * f + y * (f - r)) e ∙ square f r h)))
+        simp (few, le-leb k f x)
+        (mul-assoc n (min k f) f ∙ ap (λ (y : ℕ). n * y) (ap (λ (y : ℕ). y * f) (fewest k f m) ∙ sym (ap (λ (y : ℕ). r * f + y * (f - r)) e ∙ square f r h)))
 
 prepared-scaled : (n x q t l : ℕ) → t * q ≡ l → n * (x * q) * t ≡ n * x * l
 prepared-scaled n x q t l e =

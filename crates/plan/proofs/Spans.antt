@@ -44,18 +44,23 @@ kind-at C s f n i d h =
     columns-at n 0 (s .l) 0 (s .k) i d h ∙ ap (λ (x : ℕ). record { stripe = n; position = x; first = 0; length = s .l }) (omega arith)
 kind-at B s f n i d h = go (below-or-from i (s .k))
   where
-    go : (i < s .k) ⊎ (s .k ≤ i) → getD (columnSpans n (s .r * (s .l / s .t)) ((s .t - s .r) * (s .l / s .t)) 0 (s .k) ++ columnSpans n 0 (s .l) (s .k) (s .r)) i d
-        ≡ cond (ltb i (s .k)) (record { stripe = n; position = i; first = s .r * (s .l / s .t); length = (s .t - s .r) * (s .l / s .t) }) (record { stripe = n; position = i; first = 0; length = s .l })
+    go : (i < s .k) ⊎ (s .k ≤ i)
+        → getD (columnSpans n (s .r * (s .l / s .t)) ((s .t - s .r) * (s .l / s .t)) 0 (s .k) ++ columnSpans n 0 (s .l) (s .k) (s .r)) i d
+        ≡ cond (ltb i (s .k)) (record { stripe = n; position = i; first = s .r * (s .l / s .t); length = (s .t - s .r) * (s .l / s .t) })
+        (record { stripe = n; position = i; first = 0; length = s .l })
     go (inl x) =
         simp (lt-ltb i (s .k) x)
-        (at-front (columnSpans n (s .r * (s .l / s .t)) ((s .t - s .r) * (s .l / s .t)) 0 (s .k)) (columnSpans n 0 (s .l) (s .k) (s .r)) (s .k) i d (columns-many n _ _ 0 (s .k)) x
+        (at-front (columnSpans n (s .r * (s .l / s .t)) ((s .t - s .r) * (s .l / s .t)) 0 (s .k)) (columnSpans n 0 (s .l) (s .k) (s .r)) (s .k) i d
+        (columns-many n _ _ 0 (s .k)) x
         ∙ columns-at n (s .r * (s .l / s .t)) ((s .t - s .r) * (s .l / s .t)) 0 (s .k) i d x
         ∙ ap (λ (y : ℕ). record { stripe = n; position = y; first = s .r * (s .l / s .t); length = (s .t - s .r) * (s .l / s .t) }) (omega arith))
     go (inr x) =
         let e : s .k + (i - s .k) ≡ i = omega arith in
         simp (le-ltb i (s .k) x)
-        (ap (λ (y : ℕ). getD (columnSpans n (s .r * (s .l / s .t)) ((s .t - s .r) * (s .l / s .t)) 0 (s .k) ++ columnSpans n 0 (s .l) (s .k) (s .r)) y d) (sym e)
-        ∙ at-rest (columnSpans n (s .r * (s .l / s .t)) ((s .t - s .r) * (s .l / s .t)) 0 (s .k)) (columnSpans n 0 (s .l) (s .k) (s .r)) (s .k) (i - s .k) d (columns-many n _ _ 0 (s .k))
+        (ap (λ (y : ℕ). getD (columnSpans n (s .r * (s .l / s .t)) ((s .t - s .r) * (s .l / s .t)) 0 (s .k) ++ columnSpans n 0 (s .l) (s .k) (s .r)) y d)
+        (sym e)
+        ∙ at-rest (columnSpans n (s .r * (s .l / s .t)) ((s .t - s .r) * (s .l / s .t)) 0 (s .k)) (columnSpans n 0 (s .l) (s .k) (s .r)) (s .k) (i - s .k) d
+        (columns-many n _ _ 0 (s .k))
         ∙ columns-at n 0 (s .l) (s .k) (s .r) (i - s .k) d (omega arith)
         ∙ ap (λ (y : ℕ). record { stripe = n; position = y; first = 0; length = s .l }) e)
 

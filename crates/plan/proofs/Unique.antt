@@ -26,16 +26,20 @@ use Rattle.plan.proofs.counts.Bytes.plus.Reads as bytes-plus-reads
 use Rattle.plan.proofs.counts.Bytes.is as bytes-is
 use Rattle.plan.proofs.counts.Bytes.is.Reads as bytes-is-reads
 
-pub fold-refusal-unique : (κs : Lfts 0) (a : ArgsD fold-refusal.signature κs) (r r′ : ResD fold-refusal.signature κs) (s s′ : AtExit fold-refusal.ended κs) → fold-refusal-reads.Post κs a r s → fold-refusal-reads.Post κs a r′ s′ → r ≡ r′
+pub fold-refusal-unique : (κs : Lfts 0) (a : ArgsD fold-refusal.signature κs) (r r′ : ResD fold-refusal.signature κs) (s s′ : AtExit fold-refusal.ended κs)
+    → fold-refusal-reads.Post κs a r s → fold-refusal-reads.Post κs a r′ s′ → r ≡ r′
 fold-refusal-unique κs a r r′ s s′ p q = p ∙ sym q
 
-pub kind-of-unique : (κs : Lfts 0) (a : ArgsD kind-of.signature κs) (r r′ : ResD kind-of.signature κs) (s s′ : AtExit kind-of.ended κs) → kind-of-reads.Post κs a r s → kind-of-reads.Post κs a r′ s′ → r ≡ r′
+pub kind-of-unique : (κs : Lfts 0) (a : ArgsD kind-of.signature κs) (r r′ : ResD kind-of.signature κs) (s s′ : AtExit kind-of.ended κs)
+    → kind-of-reads.Post κs a r s → kind-of-reads.Post κs a r′ s′ → r ≡ r′
 kind-of-unique κs a r r′ s s′ p q = p ∙ sym q
 
-pub span-at-unique : (κs : Lfts 0) (a : ArgsD span-at.signature κs) (r r′ : ResD span-at.signature κs) (s s′ : AtExit span-at.ended κs) → span-at-reads.Post κs a r s → span-at-reads.Post κs a r′ s′ → r ≡ r′
+pub span-at-unique : (κs : Lfts 0) (a : ArgsD span-at.signature κs) (r r′ : ResD span-at.signature κs) (s s′ : AtExit span-at.ended κs)
+    → span-at-reads.Post κs a r s → span-at-reads.Post κs a r′ s′ → r ≡ r′
 span-at-unique κs a r r′ s s′ p q = p ∙ sym q
 
-pub wide-shape-unique : (κs : Lfts 0) (a : ArgsD wide-shape.signature κs) (r r′ : ResD wide-shape.signature κs) (s s′ : AtExit wide-shape.ended κs) → wide-shape-reads.Post κs a r s → wide-shape-reads.Post κs a r′ s′ → r ≡ r′
+pub wide-shape-unique : (κs : Lfts 0) (a : ArgsD wide-shape.signature κs) (r r′ : ResD wide-shape.signature κs) (s s′ : AtExit wide-shape.ended κs)
+    → wide-shape-reads.Post κs a r s → wide-shape-reads.Post κs a r′ s′ → r ≡ r′
 wide-shape-unique κs a r r′ s s′ p q = p ∙ sym q
 
 -- a count is told by its number
@@ -57,7 +61,8 @@ pub columns-plus-unique : (κs : Lfts 0) (a : ArgsD columns-plus.signature κs) 
     → columns-plus-reads.Post κs a r s → columns-plus-reads.Post κs a r′ s′ → r ≡ r′
 columns-plus-unique κs a r r′ s s′ p q = same-columns r r′ (p ∙ sym q)
 
-pub columns-number-unique : (κs : Lfts 0) (a : ArgsD columns-number.signature κs) (r r′ : ResD columns-number.signature κs) (s s′ : AtExit columns-number.ended κs)
+pub columns-number-unique : (κs : Lfts 0) (a : ArgsD columns-number.signature κs) (r r′ : ResD columns-number.signature κs)
+    (s s′ : AtExit columns-number.ended κs)
     → columns-number-reads.Post κs a r s → columns-number-reads.Post κs a r′ s′ → r ≡ r′
 columns-number-unique κs a r r′ s s′ p q = p ∙ sym q
 

@@ -3,11 +3,12 @@
 ghost use mathlib.Core.Path.{_≡_};
 ghost use Prim.Native.Nat.{_*_, _<_, _≤_};
 ghost use Rattle.stripe.specs.Shape.{shapeRefusal, mostData, mostColumns};
-ghost use Rattle.plan.specs.Plan.{foldRefusal, stripesAllowed, newAllowed, kindOf, columnsEach, columnsRead, columnSpan, spanAt, wideAnswer};
-use stripe::MOST_DATA;
-use stripe::MOST_ROWS;
+ghost use Rattle.plan.specs.Plan.{foldRefusal, stripesAllowed, newAllowed, kindOf};
+ghost use Rattle.plan.specs.Plan.{columnsEach, columnsRead, columnSpan, spanAt, wideAnswer};
 use crate::counts::columns_each;
 use crate::counts::columns_read;
+use stripe::MOST_DATA;
+use stripe::MOST_ROWS;
 use stripe::Shape;
 
 pub mod counts;

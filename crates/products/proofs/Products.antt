@@ -80,5 +80,14 @@ pub masked-by : (m : Multiples) (x a b c e f g i j : ℕ) → Doubling m → m .
     → c ≡ taken x 4 (m .t2) → e ≡ taken x 8 (m .t3) → f ≡ taken x 16 (m .t4) → g ≡ taken x 32 (m .t5) → i ≡ taken x 64 (m .t6)
     → j ≡ taken x 128 (m .t7) → a ⊕ b ⊕ c ⊕ e ⊕ f ⊕ g ⊕ i ⊕ j ≡ m .t0 ⊗ x
 masked-by m x a b c e f g i j d h pa pb pc pe pf pg pi pj =
-    rw (pa ∙ bit-of 0 x (m .t0) (lit< tt) ∙ ap (λ (z : ℕ). times (z % 2) (m .t0)) (div-one x), pb ∙ bit-of 1 x (m .t1) (lit< tt), pc ∙ bit-of 2 x (m .t2) (lit< tt), pe ∙ bit-of 3 x (m .t3) (lit< tt), pf ∙ bit-of 4 x (m .t4) (lit< tt), pg ∙ bit-of 5 x (m .t5) (lit< tt), pi ∙ bit-of 6 x (m .t6) (lit< tt), pj ∙ bit-of 7 x (m .t7) (lit< tt))
+    rw (
+      pa ∙ bit-of 0 x (m .t0) (lit< tt) ∙ ap (λ (z : ℕ). times (z % 2) (m .t0)) (div-one x),
+      pb ∙ bit-of 1 x (m .t1) (lit< tt),
+      pc ∙ bit-of 2 x (m .t2) (lit< tt),
+      pe ∙ bit-of 3 x (m .t3) (lit< tt),
+      pf ∙ bit-of 4 x (m .t4) (lit< tt),
+      pg ∙ bit-of 5 x (m .t5) (lit< tt),
+      pi ∙ bit-of 6 x (m .t6) (lit< tt),
+      pj ∙ bit-of 7 x (m .t7) (lit< tt),
+    )
     (masked m x d h)

@@ -39,7 +39,8 @@ copied xs from zs to at l fits long is =
     let u = length-take-le l (drop to xs) (omega (arith, length-drop to xs)) in
     let w = length-take-le l (drop at from) (omega (arith, length-drop at from)) in
     ap (λ (n : ℕ). putMid to n xs zs) p
-    ∙ ap (putMid to l xs) (is ∙ ap₂ (λ (m n : ℕ). onto (λ (x y : ℕ). y) (take m (drop to xs)) (take n (drop at from))) p q ∙ copied-whole (take l (drop to xs)) ys (u ∙ sym w))
+    ∙ ap (putMid to l xs)
+    (is ∙ ap₂ (λ (m n : ℕ). onto (λ (x y : ℕ). y) (take m (drop to xs)) (take n (drop at from))) p q ∙ copied-whole (take l (drop to xs)) ys (u ∙ sym w))
     ∙ ap (λ (us : List ℕ). take to xs ++ (ys ++ us)) (drop-drop l to xs ∙ ap (λ (n : ℕ). drop (to + n) xs) (sym w))
     ∙ sym (append-assoc (take to xs) ys (drop (to + length ys) xs))
     ∙ sym (sets-eq ys xs to (omega arith))
@@ -73,7 +74,8 @@ pub restored-lost : (l c m : ℕ) (es ys xs : List ℕ) → among c es ≡ true 
 unfolding restored
 restored-lost l c m es ys xs e = rw e
 
-pub restored-kept : (l c m : ℕ) (es ys xs : List ℕ) → among c es ≡ false → restored l es c (suc m) ys xs ≡ take l ys ++ restored l es (suc c) m (drop l ys) (drop l xs)
+pub restored-kept : (l c m : ℕ) (es ys xs : List ℕ) → among c es ≡ false
+    → restored l es c (suc m) ys xs ≡ take l ys ++ restored l es (suc c) m (drop l ys) (drop l xs)
 unfolding restored
 restored-kept l c m es ys xs e = rw e
 
@@ -123,14 +125,16 @@ module _ (l c m to : ℕ) (es ys xs : List ℕ) (fits : to + l ≤ length xs) wh
   turn-kept e long =
       let z = length-take-le l ys long in
       ap (λ (zs : List ℕ). zs ++ restored l es (suc c) m (drop l ys) (drop (to + l) (sets xs to (take l ys)))) (column-front xs (take l ys) to l z fits)
-      ∙ ap (λ (zs : List ℕ). take to xs ++ take l ys ++ restored l es (suc c) m (drop l ys) zs) (column-back xs (take l ys) to l z fits ∙ sym (drop-drop l to xs))
+      ∙ ap (λ (zs : List ℕ). take to xs ++ take l ys ++ restored l es (suc c) m (drop l ys) zs)
+      (column-back xs (take l ys) to l z fits ∙ sym (drop-drop l to xs))
       ∙ append-assoc (take to xs) (take l ys) (restored l es (suc c) m (drop l ys) (drop l (drop to xs)))
       ∙ ap (λ (zs : List ℕ). take to xs ++ zs) (sym (restored-kept l c m es ys (drop to xs) e))
 
 -- a turn of the loop that restores n columns
 pub restore-turn : (l n c at at′ to : ℕ) (es from xs xs′ : List ℕ) → c < n → to + l ≤ length xs → (among c es ≡ false → at + l ≤ length from)
     → Passed l c es to (take l (drop at from)) at at′ xs xs′
-    → take (to + l) xs′ ++ restored l es (c + 1) (n - (c + 1)) (drop at′ from) (drop (to + l) xs′) ≡ take to xs ++ restored l es c (n - c) (drop at from) (drop to xs)
+    → take (to + l) xs′ ++ restored l es (c + 1) (n - (c + 1)) (drop at′ from) (drop (to + l) xs′)
+    ≡ take to xs ++ restored l es c (n - c) (drop at from) (drop to xs)
 restore-turn l n c at at′ to es from xs xs′ h fits long w =
     ap (λ (i : ℕ). take (to + l) xs′ ++ restored l es i (n - (c + 1)) (drop at′ from) (drop (to + l) xs′)) (add-one c)
     ∙ go w
@@ -142,7 +146,8 @@ restore-turn l n c at at′ to es from xs xs′ h fits long w =
         ∙ turn-lost l c (n - (c + 1)) to es (drop at from) xs fits (v .0)
     go (inr v) =
         ap₂ (λ (i : ℕ) (us : List ℕ). take (to + l) us ++ restored l es (suc c) (n - (c + 1)) (drop i from) (drop (to + l) us)) (v .1 .0) (v .1 .1)
-        ∙ ap (λ (us : List ℕ). take (to + l) (sets xs to (take l (drop at from))) ++ restored l es (suc c) (n - (c + 1)) us (drop (to + l) (sets xs to (take l (drop at from))))) (sym (drop-drop l at from))
+        ∙ ap (λ (us : List ℕ). take (to + l) (sets xs to (take l (drop at from)))
+        ++ restored l es (suc c) (n - (c + 1)) us (drop (to + l) (sets xs to (take l (drop at from))))) (sym (drop-drop l at from))
         ∙ turn-kept l c (n - (c + 1)) to es (drop at from) xs fits (v .0) (omega (arith, length-drop at from, long (v .0)))
 
 pub restore-done : (l n c to at : ℕ) (es from xs : List ℕ) → n ≤ c → take to xs ++ restored l es c (n - c) (drop at from) (drop to xs) ≡ xs

@@ -68,9 +68,11 @@ module _ (xs : List ℕ) (k l from n : ℕ) (fits : from + n ≤ l) where
   module _ (ps qs b c : List ℕ) (r0 : RowIn xs k l from n 0 b) (r1 : RowIn xs k l from n 1 c) (put0 : Put ps from n b qs) where
     pub filled-2 : (rs : List ℕ) → Put qs (l + from) n c rs → RowsBelow xs k l 2 from ps → RowsBelow xs k l 2 (from + n) rs
     filled-2 rs put1 h zero =
-        λ p j. other 1 0 (l + from) (from + n) qs c rs (inl (lit< tt)) (omega arith) fits put1 (own 0 from ps b qs (omega arith) put0 r0 (λ q. h 0 q (lit< tt))) p
+        λ p j. other 1 0 (l + from) (from + n) qs c rs (inl (lit< tt)) (omega arith) fits put1 (own 0 from ps b qs (omega arith) put0 r0 (λ q. h 0 q (lit< tt)))
+        p
     filled-2 rs put1 h (suc zero) =
-        λ p j. own 1 (l + from) qs c rs (omega arith) put1 r1 (other 0 1 from from ps b qs (inr (lit< tt)) (omega arith) (omega arith) put0 (λ q. h 1 q (lit< tt))) p
+        λ p j. own 1 (l + from) qs c rs (omega arith) put1 r1
+        (other 0 1 from from ps b qs (inr (lit< tt)) (omega arith) (omega arith) put0 (λ q. h 1 q (lit< tt))) p
     filled-2 rs put1 h (suc (suc i)) = λ p j. absurd (not-suc-le-zero (le-of-suc-le-suc (le-of-suc-le-suc j)))
 
     pub filled-3 : (rs ss e : List ℕ) → RowIn xs k l from n 2 e → Put qs (l + from) n c rs → Put rs (l + l + from) n e ss
@@ -88,7 +90,8 @@ module _ (xs : List ℕ) (k l from n : ℕ) (fits : from + n ≤ l) where
     filled-3 rs ss e r2 put1 put2 h (suc (suc (suc i))) = λ p j. absurd (not-suc-le-zero (le-of-suc-le-suc (le-of-suc-le-suc (le-of-suc-le-suc j))))
 
 -- a whole row more, of columns no longer than a block
-pub short-more : (xs : List ℕ) (k l j : ℕ) (ps b qs : List ℕ) → RowIn xs k l 0 l j b → Put ps (j * l) l b qs → RowsBelow xs k l j l ps → RowsBelow xs k l (j + 1) l qs
+pub short-more : (xs : List ℕ) (k l j : ℕ) (ps b qs : List ℕ) → RowIn xs k l 0 l j b → Put ps (j * l) l b qs → RowsBelow xs k l j l ps
+    → RowsBelow xs k l (j + 1) l qs
 short-more xs k l j ps b qs r put h i p less =
     below-more (λ (i : ℕ). RowBelow xs k l i l qs) j
     (λ i d. other xs k l 0 l (omega arith) j i (j * l) l ps b qs (inl d) (omega arith) (omega arith) put (λ q. h i q d))

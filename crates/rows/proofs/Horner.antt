@@ -79,7 +79,10 @@ unfolding across
 first xs l from n w j o m a b long e h =
     record {
       long = long;
-      at = λ q p. h q p ∙ ap (λ (x : ℕ). getD xs x 0) (omega arith) ∙ sym (ap (λ (x : ℕ). row j (across xs l (from + q) o x)) e ∙ row-one j _ (b (o + (from + q))));
+      at =
+          λ q p. h q p
+          ∙ ap (λ (x : ℕ). getD xs x 0) (omega arith)
+          ∙ sym (ap (λ (x : ℕ). row j (across xs l (from + q) o x)) e ∙ row-one j _ (b (o + (from + q))));
     }
 
 -- one column more
@@ -127,7 +130,8 @@ two-steps x y z =
 
 pub turn-two : (xs : List ℕ) (l from n w o m z : ℕ) (a b : List ℕ) → Bytes xs → n ≤ w → l ≤ o → l ≤ o - l → o - l + from + n ≤ length xs → z ≡ suc (suc m)
     → Held xs l from n w 2 o m a
-    → b ≡ onto (λ (x v : ℕ). 16 ⊗ x ⊕ v) a (both (λ (x y : ℕ). 4 ⊗ x ⊕ y) (take (o - l + from + n - (o - l + from)) (drop (o - l + from) xs)) (take (o - l - l + from + n - (o - l - l + from)) (drop (o - l - l + from) xs)))
+    → b ≡ onto (λ (x v : ℕ). 16 ⊗ x ⊕ v) a (both (λ (x y : ℕ). 4 ⊗ x ⊕ y) (take (o - l + from + n - (o - l + from)) (drop (o - l + from) xs))
+    (take (o - l - l + from + n - (o - l - l + from)) (drop (o - l - l + from) xs)))
     → Held xs l from n w 2 (o - l - l) z b
 turn-two xs l from n w o m z a b bytes nw lo lo′ fits e h is =
     record { long = ap length is ∙ onto-length (λ (x v : ℕ). 16 ⊗ x ⊕ v) a _ ∙ h .long; at = at }
@@ -153,10 +157,12 @@ turn-two xs l from n w o m z a b bytes nw lo lo′ fits e h is =
     at : (q : ℕ) → q < n → getD b q 0 ≡ row 2 (across xs l (from + q) (o - l - l) z)
     at q p =
         ap (λ (x : List ℕ). getD x q 0) is
-        ∙ onto-at (λ (x v : ℕ). 16 ⊗ x ⊕ v) a _ q (omega (arith, h .long)) (omega (arith, both-long (λ (x y : ℕ). 4 ⊗ x ⊕ y) d f n (omega (arith, d-long)) (omega (arith, f-long))))
+        ∙ onto-at (λ (x v : ℕ). 16 ⊗ x ⊕ v) a _ q (omega (arith, h .long))
+        (omega (arith, both-long (λ (x y : ℕ). 4 ⊗ x ⊕ y) d f n (omega (arith, d-long)) (omega (arith, f-long))))
         ∙ ap₂ (λ (x v : ℕ). 16 ⊗ x ⊕ v) (h .at q p)
         (both-at (λ (x y : ℕ). 4 ⊗ x ⊕ y) d f q (omega (arith, d-long)) (omega (arith, f-long))
-        ∙ ap₂ (λ (x y : ℕ). 4 ⊗ x ⊕ y) (part-at xs s n q p ∙ ap (λ (x : ℕ). getD xs x 0) (omega arith)) (part-at xs t n q p ∙ ap (λ (x : ℕ). getD xs x 0) (omega arith)))
+        ∙ ap₂ (λ (x y : ℕ). 4 ⊗ x ⊕ y) (part-at xs s n q p ∙ ap (λ (x : ℕ). getD xs x 0) (omega arith))
+        (part-at xs t n q p ∙ ap (λ (x : ℕ). getD xs x 0) (omega arith)))
         ∙ two-steps (row 2 (across xs l (from + q) o m)) (getD xs (o - l + (from + q)) 0) (getD xs (o - l - l + (from + q)) 0)
         ∙ ap (λ (x : ℕ). 4 ⊗ x ⊕ getD xs (o - l - l + (from + q)) 0) (step-2 _ _ (row-lt 2 _) ∙ one-more xs l (from + q) 2 o m (suc m) bytes lo refl)
         ∙ step-2 _ _ (row-lt 2 _)
@@ -190,7 +196,8 @@ pub done3 : (xs : List ℕ) (k l from i o m : ℕ) (a b c : List ℕ) → i ≤ 
 done3 xs k l from i o m a b c z d e h =
     (done xs k l from 64 64 0 i o m a z d e (h .row0), (done xs k l from 64 64 1 i o m b z d e (h .row1), done xs k l from 64 64 2 i o m c z d e (h .row2)))
 
-module _ (xs : List ℕ) (l from o m : ℕ) (a b c a′ b′ c′ : List ℕ) (bytes : Bytes xs) (lo : l ≤ o) (fits : o - l + from + 64 ≤ length xs) (h : Held3 xs l from o m a b c) where
+module _ (xs : List ℕ) (l from o m : ℕ) (a b c a′ b′ c′ : List ℕ) (bytes : Bytes xs) (lo : l ≤ o) (fits : o - l + from + 64 ≤ length xs)
+    (h : Held3 xs l from o m a b c) where
   pub turn3 : (z : ℕ) → z ≡ suc m
       → (a′ ≡ onto (λ (x y : ℕ). x ⊕ y) a (block xs (o - l + from)))
       × ((b′ ≡ onto (λ (x y : ℕ). 2 ⊗ x ⊕ y) b (block xs (o - l + from))) × (c′ ≡ onto (λ (x y : ℕ). 4 ⊗ x ⊕ y) c (block xs (o - l + from))))

@@ -104,9 +104,12 @@ fn one_more(row0: &mut [u8; 64], row1: &mut [u8; 64], row2: &mut [u8; 64], d: &[
 
 // Two columns more of rows 0, 1 and 2; row 2 takes them at once, which is less work.
 fn two_more(row0: &mut [u8; 64], row1: &mut [u8; 64], row2: &mut [u8; 64], d: &[u8], f: &[u8])
-    ensures { λ _. ⌜ now (row0 .exit) ≡ onto (λ (x y : ℕ). x ⊕ y) (onto (λ (x y : ℕ). x ⊕ y) (now (row0 .entry)) (now (d .entry))) (now (f .entry)) ⌝ }
-    ensures { λ _. ⌜ now (row1 .exit) ≡ onto (λ (x y : ℕ). 2 ⊗ x ⊕ y) (onto (λ (x y : ℕ). 2 ⊗ x ⊕ y) (now (row1 .entry)) (now (d .entry))) (now (f .entry)) ⌝ }
-    ensures { λ _. ⌜ now (row2 .exit) ≡ onto (λ (x w : ℕ). 16 ⊗ x ⊕ w) (now (row2 .entry)) (both (λ (y z : ℕ). 4 ⊗ y ⊕ z) (now (d .entry)) (now (f .entry))) ⌝ }
+    ensures { λ _. ⌜ now (row0 .exit)
+        ≡ onto (λ (x y : ℕ). x ⊕ y) (onto (λ (x y : ℕ). x ⊕ y) (now (row0 .entry)) (now (d .entry))) (now (f .entry)) ⌝ }
+    ensures { λ _. ⌜ now (row1 .exit)
+        ≡ onto (λ (x y : ℕ). 2 ⊗ x ⊕ y) (onto (λ (x y : ℕ). 2 ⊗ x ⊕ y) (now (row1 .entry)) (now (d .entry))) (now (f .entry)) ⌝ }
+    ensures { λ _. ⌜ now (row2 .exit)
+        ≡ onto (λ (x w : ℕ). 16 ⊗ x ⊕ w) (now (row2 .entry)) (both (λ (y z : ℕ). 4 ⊗ y ⊕ z) (now (d .entry)) (now (f .entry))) ⌝ }
 {
     add(row0, d);
     add(row0, f);
@@ -118,7 +121,8 @@ fn two_more(row0: &mut [u8; 64], row1: &mut [u8; 64], row2: &mut [u8; 64], d: &[
 // Rows 0, 1 and 2 at the 64 places from `from` on, two columns at a time.
 fn block3(data: &[u8], k: usize, l: usize, from: usize) -> Rows
     requires { ⌜ (length (now «data») ≡ k * l) × ((0 < k) × (from + 64 ≤ l)) ⌝ }
-    ensures { λ v. ⌜ RowIn (now («data» .entry)) k l from 64 0 (v .row0) × (RowIn (now («data» .entry)) k l from 64 1 (v .row1) × RowIn (now («data» .entry)) k l from 64 2 (v .row2)) ⌝ }
+    ensures { λ v. ⌜ RowIn (now («data» .entry)) k l from 64 0 (v .row0)
+        × (RowIn (now («data» .entry)) k l from 64 1 (v .row1) × RowIn (now («data» .entry)) k l from 64 2 (v .row2)) ⌝ }
 {
     let mut i = k - 1;
     let mut o = data.len() - l;
@@ -162,7 +166,8 @@ fn block_at(b: usize, l: usize) -> usize
 
 // Row 0 at the 64 places from `from` on, where those before are there.
 fn fill_block1(data: &[u8], k: usize, l: usize, from: usize, out: &mut [u8])
-    requires { ⌜ (length (now «data») ≡ k * l) × ((0 < k) × ((from + 64 ≤ l) × ((length (now out) ≡ 1 * l) × RowsBelow (now «data») k l 1 from (now out)))) ⌝ }
+    requires { ⌜ (length (now «data») ≡ k * l)
+        × ((0 < k) × ((from + 64 ≤ l) × ((length (now out) ≡ 1 * l) × RowsBelow (now «data») k l 1 from (now out)))) ⌝ }
     ensures { λ _. ⌜ RowsBelow (now («data» .entry)) k l 1 (from + 64) (now (out .exit)) ⌝ }
 {
     let b = row_block(data, k, l, 0, from, 64);
@@ -171,7 +176,8 @@ fn fill_block1(data: &[u8], k: usize, l: usize, from: usize, out: &mut [u8])
 
 // Rows 0 and 1 at the 64 places from `from` on, where those before are there.
 fn fill_block2(data: &[u8], k: usize, l: usize, from: usize, out: &mut [u8])
-    requires { ⌜ (length (now «data») ≡ k * l) × ((0 < k) × ((from + 64 ≤ l) × ((length (now out) ≡ 2 * l) × RowsBelow (now «data») k l 2 from (now out)))) ⌝ }
+    requires { ⌜ (length (now «data») ≡ k * l)
+        × ((0 < k) × ((from + 64 ≤ l) × ((length (now out) ≡ 2 * l) × RowsBelow (now «data») k l 2 from (now out)))) ⌝ }
     ensures { λ _. ⌜ RowsBelow (now («data» .entry)) k l 2 (from + 64) (now (out .exit)) ⌝ }
 {
     let v = block2(data, k, l, from);
@@ -183,7 +189,8 @@ fn fill_block2(data: &[u8], k: usize, l: usize, from: usize, out: &mut [u8])
 
 // Rows 0, 1 and 2 at the 64 places from `from` on, where those before are there.
 fn fill_block3(data: &[u8], k: usize, l: usize, from: usize, out: &mut [u8])
-    requires { ⌜ (length (now «data») ≡ k * l) × ((0 < k) × ((from + 64 ≤ l) × ((length (now out) ≡ 3 * l) × RowsBelow (now «data») k l 3 from (now out)))) ⌝ }
+    requires { ⌜ (length (now «data») ≡ k * l)
+        × ((0 < k) × ((from + 64 ≤ l) × ((length (now out) ≡ 3 * l) × RowsBelow (now «data») k l 3 from (now out)))) ⌝ }
     ensures { λ _. ⌜ RowsBelow (now («data» .entry)) k l 3 (from + 64) (now (out .exit)) ⌝ }
 {
     let v = block3(data, k, l, from);
@@ -197,7 +204,9 @@ fn fill_block3(data: &[u8], k: usize, l: usize, from: usize, out: &mut [u8])
 
 // The first r rows at the 64 places from `from` on, where those before are there.
 fn fill_block(data: &[u8], k: usize, l: usize, r: usize, from: usize, out: &mut [u8])
-    requires { ⌜ (length (now «data») ≡ k * l) × ((0 < k) × ((from + 64 ≤ l) × ((1 ≤ r) × ((r ≤ mostRows) × ((length (now out) ≡ r * l) × RowsBelow (now «data») k l r from (now out)))))) ⌝ }
+    requires { ⌜ (length (now «data») ≡ k * l)
+        × ((0 < k)
+        × ((from + 64 ≤ l) × ((1 ≤ r) × ((r ≤ mostRows) × ((length (now out) ≡ r * l) × RowsBelow (now «data») k l r from (now out)))))) ⌝ }
     ensures { λ _. ⌜ RowsBelow (now («data» .entry)) k l r (from + 64) (now (out .exit)) ⌝ }
 {
     if r < 2 {

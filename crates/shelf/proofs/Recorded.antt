@@ -18,7 +18,8 @@ use Rattle.writing.specs.Writing.{writeRefusal, writtenOf, outWritten}
 use Rattle.shelf.specs.Records.{readNumber, stripeLeft, lostLeft, numbersOf, numbersLeft, writeNumber, lengthLeft}
 
 -- the number of an answer that is told by a refusal
-pub number-told : {A : Type 0} (number : A → ℕ) (refusal : ℕ) (done other : A) → number done ≡ 0 → number other ≡ refusal → number (cond (eqb refusal 0) done other) ≡ refusal
+pub number-told : {A : Type 0} (number : A → ℕ) (refusal : ℕ) (done other : A) → number done ≡ 0 → number other ≡ refusal
+    → number (cond (eqb refusal 0) done other) ≡ refusal
 number-told number refusal done other d o = go (zero-or-not refusal)
   where
     go : (refusal ≡ 0) ⊎ (refusal ≡ 0 → ⊥) → number (cond (eqb refusal 0) done other) ≡ refusal

@@ -20,8 +20,10 @@ pub extern "C" fn shelf_check(
     place: &mut u32,
 ) -> u32
     ensures { λ v. ⌜ v ≡ numberOf (firstWrong (shapeOf k r t l) (now («data» .entry)) (now (parity .entry))) ⌝ }
-    ensures { λ _. ⌜ now (column .exit) ≡ columnLeft (firstWrong (shapeOf k r t l) (now («data» .entry)) (now (parity .entry))) (now (column .entry)) ⌝ }
-    ensures { λ _. ⌜ now (place .exit) ≡ placeLeft (firstWrong (shapeOf k r t l) (now («data» .entry)) (now (parity .entry))) (now (place .entry)) ⌝ }
+    ensures { λ _. ⌜ now (column .exit)
+        ≡ columnLeft (firstWrong (shapeOf k r t l) (now («data» .entry)) (now (parity .entry))) (now (column .entry)) ⌝ }
+    ensures { λ _. ⌜ now (place .exit)
+        ≡ placeLeft (firstWrong (shapeOf k r t l) (now («data» .entry)) (now (parity .entry))) (now (place .entry)) ⌝ }
 {
     let s = shape_of(k, r, t, l);
     let wrong = first_wrong(s, data, parity);

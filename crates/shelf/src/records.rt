@@ -19,9 +19,12 @@ pub extern "C" fn shelf_read_record(
     numbers: &mut [u64],
 ) -> u32
     ensures { λ v. ⌜ v ≡ readNumber (now («record» .entry)) (now (stripe .entry)) (now (lost .entry)) (now (numbers .entry)) ⌝ }
-    ensures { λ _. ⌜ now (stripe .exit) ≡ stripeLeft (now («record» .entry)) (now (stripe .entry)) (now (lost .entry)) (now (numbers .entry)) ⌝ }
-    ensures { λ _. ⌜ now (lost .exit) ≡ lostLeft (now («record» .entry)) (now (stripe .entry)) (now (lost .entry)) (now (numbers .entry)) ⌝ }
-    ensures { λ _. ⌜ now (numbers .exit) ≡ numbersLeft (now («record» .entry)) (now (stripe .entry)) (now (lost .entry)) (now (numbers .entry)) ⌝ }
+    ensures { λ _. ⌜ now (stripe .exit)
+        ≡ stripeLeft (now («record» .entry)) (now (stripe .entry)) (now (lost .entry)) (now (numbers .entry)) ⌝ }
+    ensures { λ _. ⌜ now (lost .exit)
+        ≡ lostLeft (now («record» .entry)) (now (stripe .entry)) (now (lost .entry)) (now (numbers .entry)) ⌝ }
+    ensures { λ _. ⌜ now (numbers .exit)
+        ≡ numbersLeft (now («record» .entry)) (now (stripe .entry)) (now (lost .entry)) (now (numbers .entry)) ⌝ }
 {
     if numbers.len() != 5 {
         return 5;
@@ -60,7 +63,8 @@ pub extern "C" fn shelf_write_record(
 ) -> u32
     ensures { λ v. ⌜ v ≡ writeNumber (shapeOf k r t l) (now (stripe .entry)) (now (lost .entry)) (now (out .entry)) ⌝ }
     ensures { λ _. ⌜ now (out .exit) ≡ outWritten (shapeOf k r t l) (now (stripe .entry)) (now (lost .entry)) (now (out .entry)) ⌝ }
-    ensures { λ _. ⌜ now (length .exit) ≡ lengthLeft (shapeOf k r t l) (now (stripe .entry)) (now (lost .entry)) (now (out .entry)) (now (length .entry)) ⌝ }
+    ensures { λ _. ⌜ now (length .exit)
+        ≡ lengthLeft (shapeOf k r t l) (now (stripe .entry)) (now (lost .entry)) (now (out .entry)) (now (length .entry)) ⌝ }
 {
     let s = shape_of(k, r, t, l);
     let written = write_record(s, stripe, lost, out);

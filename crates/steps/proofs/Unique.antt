@@ -23,7 +23,8 @@ pub quadruple-add-unique : (κs : Lfts 2) (a : ArgsD quadruple-add.signature κs
     → quadruple-add-reads.Post κs a r s → quadruple-add-reads.Post κs a r′ s′ → now (s .0) ≡ now (s′ .0)
 quadruple-add-unique κs a r r′ s s′ p q = p ∙ sym q
 
-pub quadruple-add-two-unique : (κs : Lfts 3) (a : ArgsD quadruple-add-two.signature κs) (r r′ : ResD quadruple-add-two.signature κs) (s s′ : AtExit quadruple-add-two.ended κs)
+pub quadruple-add-two-unique : (κs : Lfts 3) (a : ArgsD quadruple-add-two.signature κs) (r r′ : ResD quadruple-add-two.signature κs)
+    (s s′ : AtExit quadruple-add-two.ended κs)
     → quadruple-add-two-reads.Post κs a r s → quadruple-add-two-reads.Post κs a r′ s′ → now (s .0) ≡ now (s′ .0)
 quadruple-add-two-unique κs a r r′ s s′ p q = p ∙ sym q
 

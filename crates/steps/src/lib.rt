@@ -38,7 +38,8 @@ pub fn quadruple_add(a: &mut [u8], d: &[u8])
 
 // At each place sixteen times the first, four times the second, and the third: two steps of row 2 at once.
 pub fn quadruple_add_two(a: &mut [u8], d: &[u8], e: &[u8])
-    ensures { λ _. ⌜ now (a .exit) ≡ onto (λ (x w : ℕ). 16 ⊗ x ⊕ w) (now (a .entry)) (both (λ (y z : ℕ). 4 ⊗ y ⊕ z) (now (d .entry)) (now (e .entry))) ⌝ }
+    ensures { λ _. ⌜ now (a .exit)
+        ≡ onto (λ (x w : ℕ). 16 ⊗ x ⊕ w) (now (a .entry)) (both (λ (y z : ℕ). 4 ⊗ y ⊕ z) (now (d .entry)) (now (e .entry))) ⌝ }
 {
     let m = shorter(d.len(), e.len());
     let n = shorter(a.len(), m);

@@ -22,7 +22,9 @@ use Rattle.stripe.specs.declared.Shape.{Shape}
 use Rattle.stripe.specs.Shape.{columns, dataLength}
 use Rattle.stripe.specs.Stripe.{across, rowAt, runLength, parityByte, parity, dataOf, Codeword, among, Ascending, Agree, plainRuns}
 use Rattle.stripe.proofs.Allowed.{Allowed}
-use Rattle.stripe.proofs.Places.{place-lt, place-column, place-byte, by-places, across-length, across-first, across-bytes, parity-below, parity-from, row-at-stripe, codeword-checks, data-of-length, encoded-data, encoded-codeword, codeword-encoded, run-place-lt, run-place-run}
+use Rattle.stripe.proofs.Places.{place-lt, place-column, place-byte, by-places, across-length, across-first}
+use Rattle.stripe.proofs.Places.{across-bytes, parity-below, parity-from, row-at-stripe, codeword-checks, data-of-length}
+use Rattle.stripe.proofs.Places.{encoded-data, encoded-codeword, codeword-encoded, run-place-lt, run-place-run}
 use Rattle.stripe.proofs.Errors.{AgreeOff}
 use Rattle.stripe.proofs.Word.{SurvivingRows, wordMended, word-mended-length, word-mended-bytes, word-mended-agrees, word-only, word-completed}
 

@@ -13,7 +13,8 @@ use Rattle.stripe.specs.Stripe.{among, Ascending}
 use Rattle.stripe.specs.Shape.{mostRows, mostData}
 use Rattle.stripe.proofs.Survivors.{Spread, firstRow, rowStep, survivors}
 use Rattle.stripe.proofs.Lost.{lostData, rowLost, lost-data-ascending, lost-data-among, lost-count}
-use Rattle.stripe.proofs.Errors.{AgreeOff, errorRow, errors, mended-own, mended-row-any, mended, mended-length, mended-bytes, mended-agrees, mended-row, only-mended}
+use Rattle.stripe.proofs.Errors.{AgreeOff, errorRow, errors, mended-own, mended-row-any, mended}
+use Rattle.stripe.proofs.Errors.{mended-length, mended-bytes, mended-agrees, mended-row, only-mended}
 
 -- the rows that survive have the values wanted
 abbrev pub SurvivingRows : ℕ → ℕ → List ℕ → (ℕ → ℕ) → List ℕ → Type 0

@@ -22,7 +22,8 @@ sets-append (x ∷ xs) ys out at =
 survive-column : (l c m at at′ : ℕ) (es xs out out′ : List ℕ) → l ≤ length xs → Passed l c es at (take l xs) at at′ out out′
     → sets out′ at′ (survivors l es (suc c) m (drop l xs)) ≡ sets out at (survivors l es c (suc m) xs)
 survive-column l c m at at′ es xs out out′ long (inl w) =
-    ap₂ (λ (o : List ℕ) (n : ℕ). sets o n (survivors l es (suc c) m (drop l xs))) (w .1 .1) (w .1 .0) ∙ ap (sets out at) (sym (survivors-lost l c m es xs (w .0)))
+    ap₂ (λ (o : List ℕ) (n : ℕ). sets o n (survivors l es (suc c) m (drop l xs))) (w .1 .1) (w .1 .0)
+    ∙ ap (sets out at) (sym (survivors-lost l c m es xs (w .0)))
 survive-column l c m at at′ es xs out out′ long (inr w) =
     ap₂ (λ (o : List ℕ) (n : ℕ). sets o n (survivors l es (suc c) m (drop l xs))) (w .1 .1) (w .1 .0)
     ∙ ap (λ (n : ℕ). sets (sets out at (take l xs)) (at + n) (survivors l es (suc c) m (drop l xs))) (sym (length-take-le l xs long))

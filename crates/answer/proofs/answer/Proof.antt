@@ -38,10 +38,11 @@ same-length c = search needs
 
 returns-2 : tie.Need-returns-2
 returns-2 c =
+    let if1 = c .before .before .before .before .before .before .before .before .before .before .before .before .before .if1 in
     let r = c .before .before .before .before .before .before .before .before .read-and-mend in
     let a = c .before .before .before .before .before .before .before .before .before .before .before .before .before .before .before .before .args in
     let v = c .before .before .write-refusal in
-    refusal-front (now (a .bytes)) (now (a .out)) (v .last .1 .0) (v .result) (r .result .number) (r .ensures .bytes) (r .ensures .outcome) (c .before .before .before .before .before .before .before .before .before .before .before .before .before .if1 .left)
+    refusal-front (now (a .bytes)) (now (a .out)) (v .last .1 .0) (v .result) (r .result .number) (r .ensures .bytes) (r .ensures .outcome) (if1 .left)
     (c .before .before .before .before .if2 .taken) (v .ensures .0) (v .ensures .1)
 
 add-n : tie.Need-add-n
@@ -58,27 +59,45 @@ mul-n c =
 
 array-share-prefix-list : tie.Need-array-share-prefix-list
 array-share-prefix-list c =
+    let blank-list = c .before .before .before .before .before .before .before .before .before .blank-list in
     let r = c .before .before .before .before .before .before .read-and-mend in
     let a = c .before .before .before .before .before .before .before .before .before .before .before .before .before .before .args in
-    omega (arith, answer-list (now (a .bytes)) (r .result) (r .last .1 .0) (r .last .1 .1 .0) (r .ensures) (c .before .before .if2 .left), c .before .before .before .before .before .before .before .before .before .blank-list .ensures)
+    omega (arith, answer-list (now (a .bytes)) (r .result) (r .last .1 .0) (r .last .1 .1 .0) (r .ensures) (c .before .before .if2 .left), blank-list .ensures)
 
 slice-aggregate-write-text : tie.Need-slice-aggregate-write-text
 slice-aggregate-write-text c =
+    let blank-list = c .before .before .before .before .before .before .before .before .before .before .blank-list in
     let r = c .before .before .before .before .before .before .before .read-and-mend in
     let a = c .before .before .before .before .before .before .before .before .before .before .before .before .before .before .before .args in
-    sym (length-take-le (r .result .lost) (r .last .1 .1 .0) (omega (arith, answer-list (now (a .bytes)) (r .result) (r .last .1 .0) (r .last .1 .1 .0) (r .ensures) (c .before .before .before .if2 .left), c .before .before .before .before .before .before .before .before .before .before .blank-list .ensures)))
+    sym (length-take-le (r .result .lost) (r .last .1 .1 .0) (omega (
+      arith,
+      answer-list (now (a .bytes)) (r .result) (r .last .1 .0) (r .last .1 .1 .0) (r .ensures) (c .before .before .before .if2 .left),
+      blank-list .ensures,
+    )))
 
 array-share-prefix-held : tie.Need-array-share-prefix-held
 array-share-prefix-held c =
+    let blank-stripe = c .before .before .before .before .before .before .before .before .before .before .before .blank-stripe in
     let r = c .before .before .before .before .before .before .before .read-and-mend in
     let a = c .before .before .before .before .before .before .before .before .before .before .before .before .before .before .before .args in
-    omega (arith, answer-stripe (now (a .bytes)) (r .result) (r .last .1 .0) (r .last .1 .1 .0) (r .ensures) (c .before .before .before .if2 .left), ap length (c .before .before .before .before .before .before .before .before .before .before .before .blank-stripe .ensures), blank-long)
+    omega (
+      arith,
+      answer-stripe (now (a .bytes)) (r .result) (r .last .1 .0) (r .last .1 .1 .0) (r .ensures) (c .before .before .before .if2 .left),
+      ap length (blank-stripe .ensures),
+      blank-long,
+    )
 
 slice-aggregate-write-text-2 : tie.Need-slice-aggregate-write-text-2
 slice-aggregate-write-text-2 c =
+    let blank-stripe = c .before .before .before .before .before .before .before .before .before .before .before .before .blank-stripe in
     let r = c .before .before .before .before .before .before .before .before .read-and-mend in
     let a = c .before .before .before .before .before .before .before .before .before .before .before .before .before .before .before .before .args in
-    sym (length-take-le ((r .result .shape .k + r .result .shape .r) * r .result .shape .l) (r .last .1 .0) (omega (arith, answer-stripe (now (a .bytes)) (r .result) (r .last .1 .0) (r .last .1 .1 .0) (r .ensures) (c .before .before .before .before .if2 .left), ap length (c .before .before .before .before .before .before .before .before .before .before .before .before .blank-stripe .ensures), blank-long)))
+    sym (length-take-le ((r .result .shape .k + r .result .shape .r) * r .result .shape .l) (r .last .1 .0) (omega (
+      arith,
+      answer-stripe (now (a .bytes)) (r .result) (r .last .1 .0) (r .last .1 .1 .0) (r .ensures) (c .before .before .before .before .if2 .left),
+      ap length (blank-stripe .ensures),
+      blank-long,
+    )))
 
 write-text-requires : tie.Need-write-text-requires
 write-text-requires c κs = search needs
@@ -88,13 +107,22 @@ same-length-2 c = search needs
 
 returns-3 : tie.Need-returns-3
 returns-3 c =
-    let r = c .before .before .before .before .before .before .before .before .before .before .before .before .read-and-mend in
-    let a = c .before .before .before .before .before .before .before .before .before .before .before .before .before .before .before .before .before .before .before .before .args in
+    let earlier = c .before .before .before .before .before .before .before .before .before in
+    let if1 = earlier .before .before .before .before .before .before .before .before .if1 in
+    let blank-stripe = earlier .before .before .before .before .before .before .before .blank-stripe in
+    let r = earlier .before .before .before .read-and-mend in
+    let a = earlier .before .before .before .before .before .before .before .before .before .before .before .args in
     let z = c .before .before .before .before .before .before .before .before .if2 .left in
     let v = c .before .before .write-text in
-    text-front (now (a .bytes)) (r .result) (r .last .1 .0) (r .last .1 .1 .0) (r .ensures) z (take ((r .result .shape .k + r .result .shape .r) * r .result .shape .l) (r .last .1 .0)) (take (r .result .lost) (r .last .1 .1 .0)) refl refl
-    (length-take-le ((r .result .shape .k + r .result .shape .r) * r .result .shape .l) (r .last .1 .0) (omega (arith, answer-stripe (now (a .bytes)) (r .result) (r .last .1 .0) (r .last .1 .1 .0) (r .ensures) z, ap length (c .before .before .before .before .before .before .before .before .before .before .before .before .before .before .before .before .blank-stripe .ensures), blank-long)))
-    (now (a .out)) (c .before .before .before .before .before .before .before .before .before .before .before .before .before .before .before .before .before .if1 .left) (v .result) (v .last .1 .1 .1 .0) (v .ensures .0) (v .ensures .1)
+    text-front (now (a .bytes)) (r .result) (r .last .1 .0) (r .last .1 .1 .0) (r .ensures) z
+    (take ((r .result .shape .k + r .result .shape .r) * r .result .shape .l) (r .last .1 .0)) (take (r .result .lost) (r .last .1 .1 .0)) refl refl
+    (length-take-le ((r .result .shape .k + r .result .shape .r) * r .result .shape .l) (r .last .1 .0) (omega (
+      arith,
+      answer-stripe (now (a .bytes)) (r .result) (r .last .1 .0) (r .last .1 .1 .0) (r .ensures) z,
+      ap length (blank-stripe .ensures),
+      blank-long,
+    )))
+    (now (a .out)) (if1 .left) (v .result) (v .last .1 .1 .1 .0) (v .ensures .0) (v .ensures .1)
 
 pub answer-spec : {M : Type 1} → statement M
 answer-spec =

@@ -25,7 +25,8 @@ same-length c = search needs
 returns : tie.Need-returns
 returns c =
     let s = c .before .before .before .before .before .before .before .before .before .before in
-    let e = made (s .args .s) (s .args .«data» .now) (s .args .parity .now) (s .args .made .now) _ (s .pre .0) (s .pre .1) (c .before .before .before .before .before .encode .ensures .1) in
+    let e = made (s .args .s) (s .args .«data» .now) (s .args .parity .now) (s .args .made .now) _ (s .pre .0) (s .pre .1)
+    (c .before .before .before .before .before .encode .ensures .1) in
     sym (wrong-nowhere (s .args .s) _ _ (s .pre .0) (ap (agree (s .args .parity .now)) (sym e) ∙ sym (c .before .same .ensures) ∙ c .if1 .taken))
 
 first-difference-requires : tie.Need-first-difference-requires
@@ -45,11 +46,13 @@ same-length-2 c = search needs
 
 returns-2 : tie.Need-returns-2
 returns-2 c =
+    let encode = c .before .before .before .before .before .before .before .encode in
     let s = c .before .before .before .before .before .before .before .before .before .before .before .before in
     let l = s .args .s .l in
-    let e = made (s .args .s) (s .args .«data» .now) (s .args .parity .now) (s .args .made .now) _ (s .pre .0) (s .pre .1) (c .before .before .before .before .before .before .before .encode .ensures .1) in
+    let e = made (s .args .s) (s .args .«data» .now) (s .args .parity .now) (s .args .made .now) _ (s .pre .0) (s .pre .1) (encode .ensures .1) in
     ap (λ (n : ℕ). At (n / l) (n % l)) (c .first-difference .ensures ∙ ap (firstDifference (s .args .parity .now)) e)
-    ∙ sym (wrong-at (s .args .s) _ _ (s .pre .0) (ap (agree (s .args .parity .now)) (sym e) ∙ sym (c .before .before .before .same .ensures) ∙ c .before .before .if1 .left))
+    ∙ sym (wrong-at (s .args .s) _ _ (s .pre .0)
+    (ap (agree (s .args .parity .now)) (sym e) ∙ sym (c .before .before .before .same .ensures) ∙ c .before .before .if1 .left))
 
 pub compared-spec : {M : Type 1} → statement M
 compared-spec =

@@ -38,7 +38,8 @@ part-middle-end : tie.Need-part-middle-end
 part-middle-end c = search needs
 
 compared-requires-2 : tie.Need-compared-requires-2
-compared-requires-2 c κs = (sym (c .before .before .before .before .lent-refusal .ensures) ∙ c .before .before .before .if1 .left, front-length _ _ (omega arith))
+compared-requires-2 c κs =
+    (sym (c .before .before .before .before .lent-refusal .ensures) ∙ c .before .before .before .if1 .left, front-length _ _ (omega arith))
 
 returns-3 : tie.Need-returns-3
 returns-3 c = c .before .compared2 .ensures
@@ -53,7 +54,10 @@ part-large-end : tie.Need-part-large-end
 part-large-end c = omega (arith, parity-most _ _ _ (sym (c .before .before .before .lent-refusal .ensures) ∙ c .before .before .if1 .left))
 
 compared-requires-3 : tie.Need-compared-requires-3
-compared-requires-3 c κs = (sym (c .before .before .before .before .lent-refusal .ensures) ∙ c .before .before .before .if1 .left, front-length _ _ (parity-most _ _ _ (sym (c .before .before .before .before .lent-refusal .ensures) ∙ c .before .before .before .if1 .left)))
+compared-requires-3 c κs =
+    let lent-refusal = c .before .before .before .before .lent-refusal in
+    let if1 = c .before .before .before .if1 in
+    (sym (lent-refusal .ensures) ∙ if1 .left, front-length _ _ (parity-most _ _ _ (sym (lent-refusal .ensures) ∙ if1 .left)))
 
 returns-4 : tie.Need-returns-4
 returns-4 c = c .before .compared3 .ensures

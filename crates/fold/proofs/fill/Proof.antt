@@ -39,10 +39,12 @@ same-length c = search needs
 
 returns : tie.Need-returns
 returns c =
+    let kind-of = c .before .before .before .before .before .before .before .kind-of in
     let z = c .before .before .before .before .before .before .before .before .before .before in
     c .before .before .encode .ensures .1
-    ∙ ap (λ (t : Shape). encoded t (now (z .args .read)) (now (z .args .parity))) (c .before .before .before .before .wide-shape .ensures ∙ a-shape _ _ _ (z .pre .0))
-    ∙ encoded-fold _ _ _ (z .pre .0) _ (sym (c .before .before .before .before .before .before .before .kind-of .ensures) ∙ c .before .before .before .before .before .enum-told .given .1) (z .pre .1 .0) _ (z .pre .1 .1)
+    ∙ ap (λ (t : Shape). encoded t (now (z .args .read)) (now (z .args .parity)))
+    (c .before .before .before .before .wide-shape .ensures ∙ a-shape _ _ _ (z .pre .0))
+    ∙ encoded-fold _ _ _ (z .pre .0) _ (sym (kind-of .ensures) ∙ c .before .before .before .before .before .enum-told .given .1) (z .pre .1 .0) _ (z .pre .1 .1)
 
 fill-parity-requires : tie.Need-fill-parity-requires
 fill-parity-requires c κs =

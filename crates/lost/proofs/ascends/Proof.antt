@@ -43,9 +43,11 @@ returns c =
 
 returns-2 : tie.Need-returns-2 Inv-loop μ-loop
 returns-2 c =
+    let position = c .before .before .position in
     let p = c .before .before .before .before .before .before in
     let ls = p .before .before .args .list .now in
-    sym (p .loop .inv .1 .1 ∙ high-pair ls (p .loop .least) _ (p .loop .i) (c .before .before .position .result) (omega arith) (c .before .before .position .ensures .0) (omega arith) (c .if2 .taken))
+    sym (p .loop .inv .1 .1
+    ∙ high-pair ls (p .loop .least) _ (p .loop .i) (position .result) (omega arith) (position .ensures .0) (omega arith) (c .if2 .taken))
 
 add-least : tie.Need-add-least Inv-loop μ-loop
 add-least c = search needs
@@ -60,8 +62,15 @@ loop-again : tie.Need-loop-again Inv-loop μ-loop
 loop-again c =
     let p = c .before .before .before .before .before .before in
     let ls = p .before .before .args .list .now in
-    let e = c .before .before .position .result in
-    (omega arith, (omega arith, p .loop .inv .1 .1 ∙ good-pair ls (p .loop .least) (p .before .before .args .n) (p .loop .i) e (omega arith) (c .before .before .position .ensures .0) (omega arith) (omega arith)))
+    let e = c .before .before .position .result in (
+      omega arith,
+      (
+        omega arith,
+        p .loop .inv .1 .1
+            ∙ good-pair ls (p .loop .least) (p .before .before .args .n) (p .loop .i) e (omega arith) (c .before .before .position .ensures .0)
+            (omega arith) (omega arith),
+      ),
+    )
 
 returns-3 : tie.Need-returns-3 Inv-loop μ-loop
 returns-3 c =

@@ -16,10 +16,13 @@ returns-2 : tie.Need-returns-2
 returns-2 c = sym (not-ascending _ _ _ (c .before .before .if1 .left) (sym (c .before .ascends .ensures) ∙ not-true _ (c .if2 .taken)))
 
 returns-3 : tie.Need-returns-3
-returns-3 c = sym (too-many _ _ _ (c .before .before .before .if1 .left) (sym (c .before .before .ascends .ensures) ∙ not-false _ (c .before .if2 .left)) (c .if3 .taken))
+returns-3 c =
+    sym (too-many _ _ _ (c .before .before .before .if1 .left) (sym (c .before .before .ascends .ensures) ∙ not-false _ (c .before .if2 .left)) (c .if3 .taken))
 
 returns-4 : tie.Need-returns-4
-returns-4 c = sym (list-passes _ _ _ (c .before .before .before .if1 .left) (sym (c .before .before .ascends .ensures) ∙ not-false _ (c .before .if2 .left)) (c .if3 .left))
+returns-4 c =
+    sym (list-passes _ _ _ (c .before .before .before .if1 .left) (sym (c .before .before .ascends .ensures) ∙ not-false _ (c .before .if2 .left))
+    (c .if3 .left))
 
 pub list-refusal-spec : {M : Type 1} → statement M
 list-refusal-spec =

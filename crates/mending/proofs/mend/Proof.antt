@@ -28,20 +28,27 @@ lost-of-requires c κs = search needs
 restore-requires : tie.Need-restore-requires
 restore-requires c κs =
     let a = c .before .before .before .before .before .before .args in
-    let z : mendRefusal (a .s) (length (a .stripe .now)) (a .lost .now) ≡ 0 = sym (c .before .before .before .mend-refusal .ensures) ∙ c .before .before .if1 .left in
-    (subst (λ (w : Lost). Ready (a .s) w) (sym (c .before .lost-of .ensures)) (ready (a .s) (a .lost .now) (a .stripe .now) z), passed (a .s) (length (a .stripe .now)) (a .lost .now) z .long)
+    let z : mendRefusal (a .s) (length (a .stripe .now)) (a .lost .now) ≡ 0 = sym (c .before .before .before .mend-refusal .ensures)
+    ∙ c .before .before .if1 .left in (
+      subst (λ (w : Lost). Ready (a .s) w) (sym (c .before .lost-of .ensures)) (ready (a .s) (a .lost .now) (a .stripe .now) z),
+      passed (a .s) (length (a .stripe .now)) (a .lost .now) z .long,
+    )
 
 same-length : tie.Need-same-length
 same-length c = search needs
 
 returns-2 : tie.Need-returns-2
 returns-2 c =
+    let mend-refusal = c .before .before .before .before .before .before .mend-refusal in
+    let lost-of = c .before .before .before .before .lost-of in
+    let restore = c .before .before .restore in
     let a = c .before .before .before .before .before .before .before .before .before .args in
-    let z : mendRefusal (a .s) (length (a .stripe .now)) (a .lost .now) ≡ 0 = sym (c .before .before .before .before .before .before .mend-refusal .ensures) ∙ c .before .before .before .before .before .if1 .left in
-    let e : lostList (c .before .before .before .before .lost-of .result) ≡ positions (a .lost .now) = ap lostList (c .before .before .before .before .lost-of .ensures) ∙ list-same (a .s) (a .lost .now) (a .stripe .now) z in
+    let z : mendRefusal (a .s) (length (a .stripe .now)) (a .lost .now) ≡ 0 = sym (mend-refusal .ensures)
+    ∙ c .before .before .before .before .before .if1 .left in
+    let e : lostList (lost-of .result) ≡ positions (a .lost .now) = ap lostList (lost-of .ensures) ∙ list-same (a .s) (a .lost .now) (a .stripe .now) z in
     record {
       refused = λ n. absurd (n z);
-      judged = λ y. subst (λ (es : List ℕ). Restores (a .s) es (a .stripe .now) (c .before .before .restore .result) (c .before .before .restore .last .1 .1 .0)) e (c .before .before .restore .ensures);
+      judged = λ y. subst (λ (es : List ℕ). Restores (a .s) es (a .stripe .now) (restore .result) (restore .last .1 .1 .0)) e (restore .ensures);
     }
 
 pub mend-spec : {M : Type 1} → statement M

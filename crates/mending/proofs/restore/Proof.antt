@@ -40,7 +40,8 @@ slice-aggregate-restore-rows-2 : tie.Need-slice-aggregate-restore-rows-2
 slice-aggregate-restore-rows-2 c = sym (length-take-le _ _ (c .before .before .if2 .taken))
 
 restore-rows-requires-2 : tie.Need-restore-rows-requires-2
-restore-rows-requires-2 c κs = let w = c .before .before .before .before .before .before .pre in (w .0, (w .1, length-take-le _ _ (c .before .before .if2 .taken)))
+restore-rows-requires-2 c κs =
+    let w = c .before .before .before .before .before .before .pre in (w .0, (w .1, length-take-le _ _ (c .before .before .if2 .taken)))
 
 same-length-2 : tie.Need-same-length-2
 same-length-2 c = search needs

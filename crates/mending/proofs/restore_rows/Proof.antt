@@ -37,9 +37,15 @@ solve-runs-requires c κs =
 
 settle-requires : tie.Need-settle-requires
 settle-requires c κs =
+    let system-of = c .before .before .before .before .before .before .before .before .before .before .system-of in
+    let syndromes = c .before .before .before .before .before .before .before .syndromes in
     let w = c .before .before .before .before .before .before .before .before .before .before .before .before .before .pre in
     let r = c .before .before .before .solve-runs .ensures in
-    record { shape = w .0 .shape; posed = c .before .before .before .before .before .before .before .before .before .before .system-of .ensures .1; long = r .long ∙ c .before .before .before .before .before .before .before .syndromes .ensures .lent (lent _ _ _ _ _ (w .0) (c .before .before .before .before .before .before .before .before .before .before .system-of .ensures .1) (w .1 .0) (w .1 .1)) .long }
+    record {
+      shape = w .0 .shape;
+      posed = system-of .ensures .1;
+      long = r .long ∙ syndromes .ensures .lent (lent _ _ _ _ _ (w .0) (system-of .ensures .1) (w .1 .0) (w .1 .1)) .long;
+    }
 
 same-length : tie.Need-same-length
 same-length c = search needs
@@ -84,11 +90,17 @@ same-length-4 c = search needs
 
 returns-2 : tie.Need-returns-2
 returns-2 c =
-    let a = c .before .before .before .before .before .before .before .before .before .before .before .before .before .before .before .before .before .before .before .before .before .before .args in
-    let w = c .before .before .before .before .before .before .before .before .before .before .before .before .before .before .before .before .before .before .before .before .before .before .pre in
-    let p = c .before .before .before .before .before .before .before .before .before .before .before .before .before .before .before .before .before .before .before .system-of in
-    let bytes : Bytes (a .stripe .now) = λ i. c .before .before .before .before .before .before .before .before .before .before .before .before .before .before .before .before .before .before .before .before .before .slice-known .given i .fits in
-    let sy = c .before .before .before .before .before .before .before .before .before .before .before .before .before .before .before .before .syndromes .ensures .lent (lent _ _ _ _ _ (w .0) (p .ensures .1) (w .1 .0) (w .1 .1)) in
+    let a = c .before .before .before .before .before .before .before .before .before .before .before .before .before .before .before .before .before .before
+    .before .before .before .before .args in
+    let w = c .before .before .before .before .before .before .before .before .before .before .before .before .before .before .before .before .before .before
+    .before .before .before .before .pre in
+    let p = c .before .before .before .before .before .before .before .before .before .before .before .before .before .before .before .before .before .before
+    .before .system-of in
+    let bytes : Bytes (a .stripe .now) = λ i. c .before .before .before .before .before .before .before .before .before .before .before .before .before .before
+    .before .before .before .before .before .before .before .slice-known .given i .fits in
+    let sy =
+    c .before .before .before .before .before .before .before .before .before .before .before .before .before .before .before .before .syndromes .ensures .lent
+    (lent _ _ _ _ _ (w .0) (p .ensures .1) (w .1 .0) (w .1 .1)) in
     let k = c .before .before .before .before .before .before .before .before .settle in
     let e = c .before .before .write in
     inl (

@@ -66,7 +66,9 @@ groups-at-returns-3 :
     (groups-at-below t, groups-at.Post)
     (groups-at-at t)
     groups-at.Post
-groups-at-returns-3 t c = let a = c .before .before .before .before .before .args in at-last (a .m) (now (a .s)) (a .at) (c .before .before .before .if1 .left) (c .before .before .if2 .left) (c .if3 .taken)
+groups-at-returns-3 t c =
+    let a = c .before .before .before .before .before .args in
+    at-last (a .m) (now (a .s)) (a .at) (c .before .before .before .if1 .left) (c .before .before .if2 .left) (c .if3 .taken)
 
 -- src/lib.rt:44:29
 groups-at-add-groups-at : (t : ℕ) → groups-at-lts.Need-add-groups-at (
@@ -104,10 +106,12 @@ groups-at-returns-4 :
     (groups-at-at t)
     groups-at.Post
 groups-at-returns-4 t c =
+    let groups-at′ = c .before .groups-at in
     let a = c .before .before .before .before .before .before .before .args in
-    onto-none (getD (now (a .s)) (a .at) 0 - 128) (c .before .groups-at .result) (c .match .keys2)
-    ∙ ap (onto (getD (now (a .s)) (a .at) 0 - 128)) (c .before .groups-at .ensures)
-    ∙ at-more (a .m) (now (a .s)) (a .at) (c .before .before .before .before .before .if1 .left) (c .before .before .before .before .if2 .left) (c .before .before .if3 .left)
+    onto-none (getD (now (a .s)) (a .at) 0 - 128) (groups-at′ .result) (c .match .keys2)
+    ∙ ap (onto (getD (now (a .s)) (a .at) 0 - 128)) (groups-at′ .ensures)
+    ∙ at-more (a .m) (now (a .s)) (a .at) (c .before .before .before .before .before .if1 .left) (c .before .before .before .before .if2 .left)
+    (c .before .before .if3 .left)
 
 -- src/lib.rt:49:9
 groups-at-returns-5 :
@@ -117,22 +121,45 @@ groups-at-returns-5 :
     (groups-at-at t)
     groups-at.Post
 groups-at-returns-5 t c =
+    let if1 = c .before .before .before .before .before .before .before .before .if1 in
+    let if2 = c .before .before .before .before .before .before .before .if2 in
     let a = c .before .before .before .before .before .before .before .before .before .before .args in
     onto-zero (getD (now (a .s)) (a .at) 0 - 128) _ _ _ (sym (c .before .before .rest .given .1)) (c .if4 .taken)
     ∙ ap (onto (getD (now (a .s)) (a .at) 0 - 128)) (c .before .before .before .before .groups-at .ensures)
-    ∙ at-more (a .m) (now (a .s)) (a .at) (c .before .before .before .before .before .before .before .before .if1 .left) (c .before .before .before .before .before .before .before .if2 .left) (c .before .before .before .before .before .if3 .left)
+    ∙ at-more (a .m) (now (a .s)) (a .at) (if1 .left) (if2 .left) (c .before .before .before .before .before .if3 .left)
 
 -- src/lib.rt:51:29
 groups-at-mul-t9 :
     (t : ℕ) →
     groups-at-lts.Need-mul-t9 (groups-at-below t, groups-at.Post) (groups-at-at t) groups-at.Post
-groups-at-mul-t9 t c = let a = c .before .before .before .before .before .before .before .before .before .before .args in omega (arith, left-small (a .m) (now (a .s)) (a .at) (c .before .before .rest .given .0 .0) _ (λ i. c .before .before .before .before .before .before .before .before .before .shared-slice-known .given i .fits) (c .before .before .before .before .before .before .before .before .if1 .left) (c .before .before .before .before .before .before .before .before .before .before .pre .1) (sym (c .before .before .before .before .groups-at .ensures) ∙ c .before .before .rest .given .1))
+groups-at-mul-t9 t c =
+    let start = c .before .before .before .before .before .before .before .before .before .before in
+    let shared-slice-known = c .before .before .before .before .before .before .before .before .before .shared-slice-known in
+    let if1 = c .before .before .before .before .before .before .before .before .if1 in
+    let rest = c .before .before .rest in
+    let a = start .args in
+    omega (
+      arith,
+      left-small (a .m) (now (a .s)) (a .at) (rest .given .0 .0) _ (λ i. shared-slice-known .given i .fits) (if1 .left) (start .pre .1)
+          (sym (c .before .before .before .before .groups-at .ensures) ∙ rest .given .1),
+    )
 
 -- src/lib.rt:51:19
 groups-at-add-t14 :
     (t : ℕ) →
     groups-at-lts.Need-add-t14 (groups-at-below t, groups-at.Post) (groups-at-at t) groups-at.Post
-groups-at-add-t14 t c = let a = c .before .before .before .before .before .before .before .before .before .before .args in omega (arith, left-small (a .m) (now (a .s)) (a .at) (c .before .before .rest .given .0 .0) _ (λ i. c .before .before .before .before .before .before .before .before .before .shared-slice-known .given i .fits) (c .before .before .before .before .before .before .before .before .if1 .left) (c .before .before .before .before .before .before .before .before .before .before .pre .1) (sym (c .before .before .before .before .groups-at .ensures) ∙ c .before .before .rest .given .1), c .before .before .before .before .before .before .before .before .before .shared-slice-known .given (a .at))
+groups-at-add-t14 t c =
+    let start = c .before .before .before .before .before .before .before .before .before .before in
+    let shared-slice-known = c .before .before .before .before .before .before .before .before .before .shared-slice-known in
+    let if1 = c .before .before .before .before .before .before .before .before .if1 in
+    let rest = c .before .before .rest in
+    let a = start .args in
+    omega (
+      arith,
+      left-small (a .m) (now (a .s)) (a .at) (rest .given .0 .0) _ (λ i. shared-slice-known .given i .fits) (if1 .left) (start .pre .1)
+          (sym (c .before .before .before .before .groups-at .ensures) ∙ rest .given .1),
+      shared-slice-known .given (a .at),
+    )
 
 -- src/lib.rt:30:1
 groups-at-returns-6 :
@@ -142,10 +169,12 @@ groups-at-returns-6 :
     (groups-at-at t)
     groups-at.Post
 groups-at-returns-6 t c =
+    let if1 = c .before .before .before .before .before .before .before .before .if1 in
+    let if2 = c .before .before .before .before .before .before .before .if2 in
     let a = c .before .before .before .before .before .before .before .before .before .before .args in
     onto-more (getD (now (a .s)) (a .at) 0 - 128) _ _ _ (sym (c .before .before .rest .given .1)) (c .if4 .left)
     ∙ ap (onto (getD (now (a .s)) (a .at) 0 - 128)) (c .before .before .before .before .groups-at .ensures)
-    ∙ at-more (a .m) (now (a .s)) (a .at) (c .before .before .before .before .before .before .before .before .if1 .left) (c .before .before .before .before .before .before .before .if2 .left) (c .before .before .before .before .before .if3 .left)
+    ∙ at-more (a .m) (now (a .s)) (a .at) (if1 .left) (if2 .left) (c .before .before .before .before .before .if3 .left)
 
 pub +groups-at-spec : {M : Type 1} → statement M
 +groups-at-spec =

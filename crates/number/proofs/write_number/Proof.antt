@@ -12,13 +12,16 @@ number-length-requires : tie.Need-number-length-requires
 number-length-requires c κs = search needs
 
 returns : tie.Need-returns
-returns c = let a = c .before .before .before .args in none-placed (now (a .out)) (a .at) (written (a .value)) (omega (arith, c .before .number-length .ensures))
+returns c =
+    let a = c .before .before .before .args in none-placed (now (a .out)) (a .at) (written (a .value)) (omega (arith, c .before .number-length .ensures))
 
 sub-if2 : tie.Need-sub-if2
 sub-if2 c = search needs
 
 returns-2 : tie.Need-returns-2
-returns-2 c = let a = c .before .before .before .before .args in none-placed (now (a .out)) (a .at) (written (a .value)) (omega (arith, c .before .before .number-length .ensures))
+returns-2 c =
+    let a = c .before .before .before .before .args in
+    none-placed (now (a .out)) (a .at) (written (a .value)) (omega (arith, c .before .before .number-length .ensures))
 
 put-number-requires : tie.Need-put-number-requires
 put-number-requires c κs = search needs

@@ -27,16 +27,25 @@ enum-told-2 : tie.Need-enum-told-2
 enum-told-2 c = search needs
 
 div-span-of : tie.Need-div-span-of
-div-span-of c = let p = b-prepared _ (c .before .before .before .before .args .f) (c .before .before .before .before .pre .0) (sym (c .before .before .before .kind-of .ensures) ∙ c .before .enum-told2 .given .1) in omega (arith, p .gains)
+div-span-of c =
+    let start = c .before .before .before .before in
+    let p = b-prepared _ (start .args .f) (start .pre .0) (sym (c .before .before .before .kind-of .ensures) ∙ c .before .enum-told2 .given .1) in
+    omega (arith, p .gains)
 
 mul-span-of : tie.Need-mul-span-of
 mul-span-of c = fits _ (omega (arith, first-small _ (c .before .before .before .before .pre .0)))
 
 sub-span-of : tie.Need-sub-span-of
-sub-span-of c = let p = b-prepared _ (c .before .before .before .before .args .f) (c .before .before .before .before .pre .0) (sym (c .before .before .before .kind-of .ensures) ∙ c .before .enum-told2 .given .1) in omega (arith, p .gains)
+sub-span-of c =
+    let start = c .before .before .before .before in
+    let p = b-prepared _ (start .args .f) (start .pre .0) (sym (c .before .before .before .kind-of .ensures) ∙ c .before .enum-told2 .given .1) in
+    omega (arith, p .gains)
 
 div-span-of-2 : tie.Need-div-span-of-2
-div-span-of-2 c = let p = b-prepared _ (c .before .before .before .before .args .f) (c .before .before .before .before .pre .0) (sym (c .before .before .before .kind-of .ensures) ∙ c .before .enum-told2 .given .1) in omega (arith, p .gains)
+div-span-of-2 c =
+    let start = c .before .before .before .before in
+    let p = b-prepared _ (start .args .f) (start .pre .0) (sym (c .before .before .before .kind-of .ensures) ∙ c .before .enum-told2 .given .1) in
+    omega (arith, p .gains)
 
 mul-span-of-2 : tie.Need-mul-span-of-2
 mul-span-of-2 c = fits _ (omega (arith, part-small _ (c .before .before .before .before .pre .0)))
@@ -59,23 +68,37 @@ span-of-requires-4 c κs =
 
 returns : tie.Need-returns
 unfolding columnSpan
-returns c = c .span-of .ensures ∙ sym (ap (λ (κ : Kind). columnSpan κ (c .before .before .before .before .args .s) (c .before .before .before .before .args .n) (c .before .before .before .before .args .i)) (sym (c .before .before .before .kind-of .ensures) ∙ c .before .enum-told .given .1))
+returns c =
+    let start = c .before .before .before .before in
+    c .span-of .ensures
+    ∙ sym (ap (λ (κ : Kind). columnSpan κ (start .args .s) (start .args .n) (start .args .i))
+    (sym (c .before .before .before .kind-of .ensures) ∙ c .before .enum-told .given .1))
 
 returns-2 : tie.Need-returns-2
 unfolding columnSpan
 returns-2 c =
+    let start = c .before .before .before .before .before in
     c .span-of2 .ensures
-    ∙ sym (ap (λ (κ : Kind). columnSpan κ (c .before .before .before .before .before .args .s) (c .before .before .before .before .before .args .n) (c .before .before .before .before .before .args .i)) (sym (c .before .before .before .before .kind-of .ensures) ∙ c .before .before .enum-told2 .given .1) ∙ simp (lt-ltb _ _ (c .before .if1 .taken)))
+    ∙ sym (ap (λ (κ : Kind). columnSpan κ (start .args .s) (start .args .n) (start .args .i))
+    (sym (c .before .before .before .before .kind-of .ensures) ∙ c .before .before .enum-told2 .given .1)
+    ∙ simp (lt-ltb _ _ (c .before .if1 .taken)))
 
 returns-3 : tie.Need-returns-3
 unfolding columnSpan
 returns-3 c =
+    let start = c .before .before .before .before .before in
     c .span-of3 .ensures
-    ∙ sym (ap (λ (κ : Kind). columnSpan κ (c .before .before .before .before .before .args .s) (c .before .before .before .before .before .args .n) (c .before .before .before .before .before .args .i)) (sym (c .before .before .before .before .kind-of .ensures) ∙ c .before .before .enum-told2 .given .1) ∙ simp (le-ltb _ _ (c .before .if1 .left)))
+    ∙ sym (ap (λ (κ : Kind). columnSpan κ (start .args .s) (start .args .n) (start .args .i))
+    (sym (c .before .before .before .before .kind-of .ensures) ∙ c .before .before .enum-told2 .given .1)
+    ∙ simp (le-ltb _ _ (c .before .if1 .left)))
 
 returns-4 : tie.Need-returns-4
 unfolding columnSpan
-returns-4 c = c .span-of4 .ensures ∙ sym (ap (λ (κ : Kind). columnSpan κ (c .before .before .before .before .args .s) (c .before .before .before .before .args .n) (c .before .before .before .before .args .i)) (sym (c .before .before .before .kind-of .ensures) ∙ c .before .enum-told3 .given .1))
+returns-4 c =
+    let start = c .before .before .before .before in
+    c .span-of4 .ensures
+    ∙ sym (ap (λ (κ : Kind). columnSpan κ (start .args .s) (start .args .n) (start .args .i))
+    (sym (c .before .before .before .kind-of .ensures) ∙ c .before .enum-told3 .given .1))
 
 pub column-span-spec : {M : Type 1} → statement M
 column-span-spec =

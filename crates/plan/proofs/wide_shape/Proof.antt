@@ -32,8 +32,9 @@ new-requires-2 c κs = search needs
 
 returns-2 : tie.Need-returns-2
 returns-2 c =
+    let start = c .before .before .before .before in
     let e = c .new2 .ensures in
-    same-shape _ (wideShape (c .before .before .before .before .args .s) (c .before .before .before .before .args .stripes) (c .before .before .before .before .args .f))
+    same-shape _ (wideShape (start .args .s) (start .args .stripes) (start .args .f))
     (e .0) (e .1 .0) (e .1 .1 .0) (e .1 .1 .1)
     ∙ sym (a-shape _ _ _ (sym (c .before .before .before .fold-refusal .ensures) ∙ c .before .before .if1 .left))
 

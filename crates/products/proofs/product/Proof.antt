@@ -33,8 +33,12 @@ mask-requires-8 c κs = search needs
 returns : tie.Need-returns
 unfolding _⊕_
 returns c =
-    let a = c .before .before .before .before .before .before .before .before .args in
-    masked-by (a .m) (a .x) _ _ _ _ _ _ _ _ (c .before .before .before .before .before .before .before .before .pre) (omega arith) (c .before .before .before .before .before .before .before .mask .ensures) (c .before .before .before .before .before .before .mask2 .ensures) (c .before .before .before .before .before .mask3 .ensures) (c .before .before .before .before .mask4 .ensures) (c .before .before .before .mask5 .ensures) (c .before .before .mask6 .ensures) (c .before .mask7 .ensures) (c .mask8 .ensures)
+    let start = c .before .before .before .before .before .before .before .before in
+    let mask = c .before .before .before .before .before .before .before .mask in
+    let a = start .args in
+    masked-by (a .m) (a .x) _ _ _ _ _ _ _ _ (start .pre) (omega arith) (mask .ensures) (c .before .before .before .before .before .before .mask2 .ensures)
+    (c .before .before .before .before .before .mask3 .ensures) (c .before .before .before .before .mask4 .ensures) (c .before .before .before .mask5 .ensures)
+    (c .before .before .mask6 .ensures) (c .before .mask7 .ensures) (c .mask8 .ensures)
 
 pub product-spec : {M : Type 1} → statement M
 product-spec =

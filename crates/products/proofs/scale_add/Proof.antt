@@ -46,8 +46,11 @@ loop-again : tie.Need-loop-again Inv-loop μ-loop
 unfolding _⊕_
 loop-again c =
     let at = c .before .before .before .before in
-    let h = at .loop .inv .1 in
-    (search needs, turn _ h (omega arith) (omega arith) (ap (λ (x : ℕ). getD (at .loop .a) (at .loop .q) 0 ⊕ x) (c .product .ensures ∙ ap₂ _⊗_ (at .before .multiples-of .ensures .0) refl)))
+    let h = at .loop .inv .1 in (
+      search needs,
+      turn _ h (omega arith) (omega arith)
+          (ap (λ (x : ℕ). getD (at .loop .a) (at .loop .q) 0 ⊕ x) (c .product .ensures ∙ ap₂ _⊗_ (at .before .multiples-of .ensures .0) refl)),
+    )
 
 same-length : tie.Need-same-length Inv-loop μ-loop
 same-length c = search needs

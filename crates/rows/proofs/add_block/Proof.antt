@@ -33,7 +33,8 @@ returns : tie.Need-returns
 returns c =
     let s = c .before .before .before .before .before .before .before .before in
     let a = s .args in
-    added-block _ (a .k) (a .l) (a .j) (a .from) (a .at) (a .n) _ _ _ (s .pre .1 .1 .1 .1 .1) (omega arith) (c .before .before .before .before .before .row-block .ensures) (c .before .before .add .ensures)
+    added-block _ (a .k) (a .l) (a .j) (a .from) (a .at) (a .n) _ _ _ (s .pre .1 .1 .1 .1 .1) (omega arith)
+    (c .before .before .before .before .before .row-block .ensures) (c .before .before .add .ensures)
 
 pub add-block-spec : {M : Type 1} → statement M
 add-block-spec =

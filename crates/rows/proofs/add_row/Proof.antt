@@ -54,7 +54,8 @@ loop-less : tie.Need-loop-less Inv-loop μ-loop
 loop-less c = search needs
 
 loop-again : tie.Need-loop-again Inv-loop μ-loop
-loop-again c = (search needs, added-more _ _ _ _ _ _ 64 _ _ _ _ refl (c .before .before .before .before .before .loop .inv .1) (c .before .before .add-block .ensures))
+loop-again c =
+    (search needs, added-more _ _ _ _ _ _ 64 _ _ _ _ refl (c .before .before .before .before .before .loop .inv .1) (c .before .before .add-block .ensures))
 
 add-add-block-2 : tie.Need-add-add-block-2 Inv-loop μ-loop
 add-add-block-2 c = omega (arith, known (c .before .before))
@@ -73,7 +74,8 @@ same-length c = search needs
 returns-2 : tie.Need-returns-2 Inv-loop μ-loop
 returns-2 c =
     let at = c .before .before .before .before .before .before .loop in
-    added-exact _ _ _ _ _ _ (fits (c .before .before .before .before .before .before)) _ (added-more _ _ _ _ _ (at .b) _ _ _ _ _ (omega arith) (at .inv .1) (c .before .before .add-block2 .ensures))
+    added-exact _ _ _ _ _ _ (fits (c .before .before .before .before .before .before)) _
+    (added-more _ _ _ _ _ (at .b) _ _ _ _ _ (omega arith) (at .inv .1) (c .before .before .add-block2 .ensures))
 
 same-length-2 : tie.Need-same-length-2 Inv-loop μ-loop
 same-length-2 c = search needs

@@ -10,7 +10,8 @@ use Rattle.rows.proofs.block2.Statement.{statement}
 use Rattle.rows.proofs.block2.Tie as tie
 
 abbrev Inv-loop : tie.InvT-loop
-Inv-loop «data» k l from i₀ o₀ row0₀ row1₀ i o row0 row1 = (i ≤ k) × (o ≡ i * l) × Held «data» l from 64 64 0 o (k - i) row0 × Held «data» l from 64 64 1 o (k - i) row1
+Inv-loop «data» k l from i₀ o₀ row0₀ row1₀ i o row0 row1 =
+    (i ≤ k) × (o ≡ i * l) × Held «data» l from 64 64 0 o (k - i) row0 × Held «data» l from 64 64 1 o (k - i) row1
 
 abbrev μ-loop : tie.MeasureT-loop
 μ-loop «data» k l from i₀ o₀ row0₀ row1₀ i o row0 row1 = i
@@ -41,8 +42,12 @@ last-requires c κs = (omega (arith, last-column (c .before) .0), search needs)
 
 loop-holds : tie.Need-loop-holds Inv-loop μ-loop
 loop-holds c =
-    let known : Bytes (c .before .before .args .«data» .now) = λ i. c .before .shared-slice-known .given i .fits in
-    (search needs, last-column (c .before .before) .1 .1, first _ _ _ _ _ 0 _ _ _ known (omega arith) (omega arith) (c .last .ensures), first _ _ _ _ _ 1 _ _ _ known (omega arith) (omega arith) (c .last .ensures))
+    let known : Bytes (c .before .before .args .«data» .now) = λ i. c .before .shared-slice-known .given i .fits in (
+      search needs,
+      last-column (c .before .before) .1 .1,
+      first _ _ _ _ _ 0 _ _ _ known (omega arith) (omega arith) (c .last .ensures),
+      first _ _ _ _ _ 1 _ _ _ known (omega arith) (omega arith) (c .last .ensures),
+    )
 
 sub-i-2 : tie.Need-sub-i-2 Inv-loop μ-loop
 sub-i-2 c = search needs
@@ -96,7 +101,11 @@ loop-again c =
     )
 
 returns : tie.Need-returns Inv-loop μ-loop
-returns c = (done _ _ _ _ _ _ 0 (c .before .loop .i) _ _ _ (c .loop-test .left) (c .before .loop .inv .1) refl (c .before .loop .inv .2), done _ _ _ _ _ _ 1 (c .before .loop .i) _ _ _ (c .loop-test .left) (c .before .loop .inv .1) refl (c .before .loop .inv .3))
+returns c =
+    let loop = c .before .loop in (
+      done _ _ _ _ _ _ 0 (loop .i) _ _ _ (c .loop-test .left) (loop .inv .1) refl (loop .inv .2),
+      done _ _ _ _ _ _ 1 (loop .i) _ _ _ (c .loop-test .left) (loop .inv .1) refl (loop .inv .3),
+    )
 
 pub block2-spec : {M : Type 1} → statement M
 block2-spec =

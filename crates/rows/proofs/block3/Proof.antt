@@ -35,7 +35,8 @@ before-that c =
     let s = c .before .before .before .before in
     let at = c .before .loop in
     let l = s .args .l in
-    let b = column-before _ (s .args .k) l (at .i - 1) (at .o - l) (s .pre .0) (omega (arith, at .inv .0)) (omega (arith, c .loop-test .taken)) (before c .1 .1) in
+    let b = column-before _ (s .args .k) l (at .i - 1) (at .o - l) (s .pre .0) (omega (arith, at .inv .0)) (omega (arith, c .loop-test .taken))
+    (before c .1 .1) in
     (b .0, b .1 .1 ∙ ap (λ (x : ℕ). x * l) (omega (arith, c .loop-test .taken)))
 
 left : (c : tie.Then1 Inv-loop μ-loop)

@@ -10,8 +10,19 @@ use Rattle.rows.proofs.fill_block.Tie as tie
 fill-block1-requires : tie.Need-fill-block1-requires
 fill-block1-requires c κs =
     let s = c .before .before .before .before in
-    let same : s .args .r ≡ 1 = omega (arith, s .pre .1 .1 .1) in
-    (s .pre .0, (s .pre .1 .0, (s .pre .1 .1 .0, (s .pre .1 .1 .1 .1 .1 .0 ∙ ap (λ (x : ℕ). x * s .args .l) same, rows-by _ _ _ _ _ _ (s .args .out .now) (sym same) (s .pre .1 .1 .1 .1 .1 .1)))))
+    let same : s .args .r ≡ 1 = omega (arith, s .pre .1 .1 .1) in (
+      s .pre .0,
+      (
+        s .pre .1 .0,
+        (
+          s .pre .1 .1 .0,
+          (
+            s .pre .1 .1 .1 .1 .1 .0 ∙ ap (λ (x : ℕ). x * s .args .l) same,
+            rows-by _ _ _ _ _ _ (s .args .out .now) (sym same) (s .pre .1 .1 .1 .1 .1 .1),
+          ),
+        ),
+      ),
+    )
 
 same-length : tie.Need-same-length
 same-length c = search needs
@@ -24,8 +35,19 @@ returns c =
 fill-block2-requires : tie.Need-fill-block2-requires
 fill-block2-requires c κs =
     let s = c .before .before .before .before .before in
-    let same : s .args .r ≡ 2 = omega (arith, s .pre .1 .1 .1) in
-    (s .pre .0, (s .pre .1 .0, (s .pre .1 .1 .0, (s .pre .1 .1 .1 .1 .1 .0 ∙ ap (λ (x : ℕ). x * s .args .l) same, rows-by _ _ _ _ _ _ (s .args .out .now) (sym same) (s .pre .1 .1 .1 .1 .1 .1)))))
+    let same : s .args .r ≡ 2 = omega (arith, s .pre .1 .1 .1) in (
+      s .pre .0,
+      (
+        s .pre .1 .0,
+        (
+          s .pre .1 .1 .0,
+          (
+            s .pre .1 .1 .1 .1 .1 .0 ∙ ap (λ (x : ℕ). x * s .args .l) same,
+            rows-by _ _ _ _ _ _ (s .args .out .now) (sym same) (s .pre .1 .1 .1 .1 .1 .1),
+          ),
+        ),
+      ),
+    )
 
 same-length-2 : tie.Need-same-length-2
 same-length-2 c = search needs
@@ -38,8 +60,19 @@ returns-2 c =
 fill-block3-requires : tie.Need-fill-block3-requires
 fill-block3-requires c κs =
     let s = c .before .before .before .before .before in
-    let same : s .args .r ≡ 3 = omega (arith, s .pre .1 .1 .1) in
-    (s .pre .0, (s .pre .1 .0, (s .pre .1 .1 .0, (s .pre .1 .1 .1 .1 .1 .0 ∙ ap (λ (x : ℕ). x * s .args .l) same, rows-by _ _ _ _ _ _ (s .args .out .now) (sym same) (s .pre .1 .1 .1 .1 .1 .1)))))
+    let same : s .args .r ≡ 3 = omega (arith, s .pre .1 .1 .1) in (
+      s .pre .0,
+      (
+        s .pre .1 .0,
+        (
+          s .pre .1 .1 .0,
+          (
+            s .pre .1 .1 .1 .1 .1 .0 ∙ ap (λ (x : ℕ). x * s .args .l) same,
+            rows-by _ _ _ _ _ _ (s .args .out .now) (sym same) (s .pre .1 .1 .1 .1 .1 .1),
+          ),
+        ),
+      ),
+    )
 
 same-length-3 : tie.Need-same-length-3
 same-length-3 c = search needs

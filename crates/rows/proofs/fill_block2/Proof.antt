@@ -21,9 +21,10 @@ same-length c = search needs
 
 returns : tie.Need-returns
 returns c =
+    let put = c .before .before .before .before .before .before .before .before .put in
     let h = c .before .before .before .before .before .before .before .before .before .before .before .before .before .before .before .pre in
     let v = c .before .before .before .before .before .before .before .before .before .before .before .before .block2 .ensures in
-    filled-2 _ _ _ _ _ (h .1 .1 .0) _ _ _ _ (v .0) (v .1) (c .before .before .before .before .before .before .before .before .put .ensures) _ (c .before .before .put2 .ensures) (h .1 .1 .1 .1)
+    filled-2 _ _ _ _ _ (h .1 .1 .0) _ _ _ _ (v .0) (v .1) (put .ensures) _ (c .before .before .put2 .ensures) (h .1 .1 .1 .1)
 
 pub fill-block2-spec : {M : Type 1} → statement M
 fill-block2-spec =

@@ -30,9 +30,12 @@ same-length c = search needs
 
 returns : tie.Need-returns
 returns c =
-    let h = c .before .before .before .before .before .before .before .before .before .before .before .before .before .before .before .before .before .before .before .before .before .pre in
-    let v = c .before .before .before .before .before .before .before .before .before .before .before .before .before .before .before .before .before .before .block3 .ensures in
-    filled-3 _ _ _ _ _ (h .1 .1 .0) _ _ _ _ (v .0) (v .1 .0) (c .before .before .before .before .before .before .before .before .before .before .before .before .before .before .put .ensures) _ _ _ (v .1 .1) (c .before .before .before .before .before .before .before .before .put2 .ensures) (c .before .before .put3 .ensures) (h .1 .1 .1 .1)
+    let earlier = c .before .before .before .before .before .before .before .before .before .before in
+    let put = earlier .before .before .before .before .put in
+    let put2 = c .before .before .before .before .before .before .before .before .put2 in
+    let h = earlier .before .before .before .before .before .before .before .before .before .before .before .pre in
+    let v = earlier .before .before .before .before .before .before .before .before .block3 .ensures in
+    filled-3 _ _ _ _ _ (h .1 .1 .0) _ _ _ _ (v .0) (v .1 .0) (put .ensures) _ _ _ (v .1 .1) (put2 .ensures) (c .before .before .put3 .ensures) (h .1 .1 .1 .1)
 
 pub fill-block3-spec : {M : Type 1} → statement M
 fill-block3-spec =

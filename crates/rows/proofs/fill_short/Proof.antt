@@ -23,7 +23,8 @@ row-block-requires : tie.Need-row-block-requires Inv-loop μ-loop
 row-block-requires c κs = search needs
 
 -- row j lies in the buffer
-inside : (c : tie.In-loop Inv-loop μ-loop) → c .before .loop .j * c .before .before .before .before .args .l + c .before .before .before .before .args .l ≤ length (c .before .loop .out)
+inside : (c : tie.In-loop Inv-loop μ-loop)
+    → c .before .loop .j * c .before .before .before .before .args .l + c .before .before .before .before .args .l ≤ length (c .before .loop .out)
 inside c =
     let l = c .before .before .before .before .args .l in
     omega (arith, c .before .loop .inv .1, mul-le-mul-right l (c .loop-test .taken), suc-mul (c .before .loop .j) l)

@@ -86,11 +86,14 @@ loop-again c =
     let known : Bytes (a .«data» .now) = λ i. t .before .before .before .shared-slice-known .given i .fits in (
       search needs,
       b .1 .1,
-      turn _ _ _ _ _ (a .j) _ _ _ _ _ (stepOf (a .j)) (step-right (a .j) (omega arith)) known (omega arith) (b .0) fits more (at .inv .2) (c .before .step .ensures),
+      turn _ _ _ _ _ (a .j) _ _ _ _ _ (stepOf (a .j)) (step-right (a .j) (omega arith)) known (omega arith) (b .0) fits more (at .inv .2)
+          (c .before .step .ensures),
     )
 
 returns : tie.Need-returns Inv-loop μ-loop
-returns c = done _ _ _ _ _ _ (c .before .before .before .before .args .j) (c .before .loop .i) _ _ _ (c .loop-test .left) (c .before .loop .inv .1) refl (c .before .loop .inv .2)
+returns c =
+    done _ _ _ _ _ _ (c .before .before .before .before .args .j) (c .before .loop .i) _ _ _ (c .loop-test .left) (c .before .loop .inv .1) refl
+    (c .before .loop .inv .2)
 
 pub row-block-spec : {M : Type 1} → statement M
 row-block-spec =

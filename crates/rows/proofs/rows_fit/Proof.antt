@@ -19,7 +19,11 @@ returns-2 c = simp (sym (c .before .before .columns-fit .ensures) ∙ not-false 
 
 returns-3 : tie.Need-returns-3
 returns-3 c =
-    simp (sym (c .before .before .before .columns-fit .ensures) ∙ not-false _ (c .before .before .if1 .left), le-leb _ _ (c .before .if2 .left), lt-leb _ _ (c .if3 .taken))
+    simp (
+      sym (c .before .before .before .columns-fit .ensures) ∙ not-false _ (c .before .before .if1 .left),
+      le-leb _ _ (c .before .if2 .left),
+      lt-leb _ _ (c .if3 .taken),
+    )
 
 mul-result : tie.Need-mul-result
 mul-result c =
@@ -28,7 +32,11 @@ mul-result c =
 
 returns-4 : tie.Need-returns-4
 returns-4 c =
-    simp (sym (c .before .before .before .columns-fit .ensures) ∙ not-false _ (c .before .before .if1 .left), le-leb _ _ (c .before .if2 .left), le-leb _ _ (c .if3 .left))
+    simp (
+      sym (c .before .before .before .columns-fit .ensures) ∙ not-false _ (c .before .before .if1 .left),
+      le-leb _ _ (c .before .if2 .left),
+      le-leb _ _ (c .if3 .left),
+    )
 
 pub rows-fit-spec : {M : Type 1} → statement M
 rows-fit-spec =

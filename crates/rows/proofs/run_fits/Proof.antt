@@ -16,7 +16,11 @@ returns : tie.Need-returns
 returns c = simp (sym (c .before .columns-fit .ensures) ∙ not-true _ (c .if1 .taken))
 
 returns-2 : tie.Need-returns-2
-returns-2 c = simp (sym (c .before .before .columns-fit .ensures) ∙ not-false _ (c .before .if1 .left), le-ltb (c .before .before .before .args .j) mostRows (c .if2 .taken))
+returns-2 c =
+    simp (
+      sym (c .before .before .columns-fit .ensures) ∙ not-false _ (c .before .if1 .left),
+      le-ltb (c .before .before .before .args .j) mostRows (c .if2 .taken),
+    )
 
 returns-3 : tie.Need-returns-3
 returns-3 c =

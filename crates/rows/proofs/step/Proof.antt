@@ -14,7 +14,10 @@ same-length : tie.Need-same-length
 same-length c = search needs
 
 returns : tie.Need-returns
-returns c = c .before .before .add .ensures ∙ ap (λ (f : ℕ → ℕ → ℕ). onto f (c .before .before .before .before .before .before .before .args .a .now) (c .before .before .before .before .before .before .before .args .d .now)) (step-add _ (c .before .before .before .before .if1 .taken))
+returns c =
+    let start = c .before .before .before .before .before .before .before in
+    c .before .before .add .ensures
+    ∙ ap (λ (f : ℕ → ℕ → ℕ). onto f (start .args .a .now) (start .args .d .now)) (step-add _ (c .before .before .before .before .if1 .taken))
 
 double-add-requires : tie.Need-double-add-requires
 double-add-requires c κs = search needs
@@ -23,7 +26,11 @@ same-length-2 : tie.Need-same-length-2
 same-length-2 c = search needs
 
 returns-2 : tie.Need-returns-2
-returns-2 c = c .before .before .double-add .ensures ∙ ap (λ (f : ℕ → ℕ → ℕ). onto f (c .before .before .before .before .before .before .before .before .args .a .now) (c .before .before .before .before .before .before .before .before .args .d .now)) (step-double _ (c .before .before .before .before .before .if1 .left) (c .before .before .before .before .if2 .taken))
+returns-2 c =
+    let start = c .before .before .before .before .before .before .before .before in
+    c .before .before .double-add .ensures
+    ∙ ap (λ (f : ℕ → ℕ → ℕ). onto f (start .args .a .now) (start .args .d .now))
+    (step-double _ (c .before .before .before .before .before .if1 .left) (c .before .before .before .before .if2 .taken))
 
 quadruple-add-requires : tie.Need-quadruple-add-requires
 quadruple-add-requires c κs = search needs
@@ -32,7 +39,10 @@ same-length-3 : tie.Need-same-length-3
 same-length-3 c = search needs
 
 returns-3 : tie.Need-returns-3
-returns-3 c = c .before .before .quadruple-add .ensures ∙ ap (λ (f : ℕ → ℕ → ℕ). onto f (c .before .before .before .before .before .before .before .before .args .a .now) (c .before .before .before .before .before .before .before .before .args .d .now)) (step-quadruple _ (c .before .before .before .before .if2 .left))
+returns-3 c =
+    let start = c .before .before .before .before .before .before .before .before in
+    c .before .before .quadruple-add .ensures
+    ∙ ap (λ (f : ℕ → ℕ → ℕ). onto f (start .args .a .now) (start .args .d .now)) (step-quadruple _ (c .before .before .before .before .if2 .left))
 
 pub step-spec : {M : Type 1} → statement M
 step-spec =

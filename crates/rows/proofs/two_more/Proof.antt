@@ -25,8 +25,15 @@ quadruple-add-two-requires c κs = search needs
 
 returns : tie.Need-returns
 returns c =
-    let a = c .before .before .before .before .before .before .before .before .before .before .before .before .args in
-    (c .before .before .before .before .before .before .add2 .ensures ∙ ap (λ (z : List ℕ). onto (λ (x y : ℕ). x ⊕ y) z (a .f .now)) (c .before .before .before .before .before .before .before .before .add .ensures), (c .before .before .double-add2 .ensures ∙ ap (λ (z : List ℕ). onto (λ (x y : ℕ). 2 ⊗ x ⊕ y) z (a .f .now)) (c .before .before .before .before .double-add .ensures), c .quadruple-add-two .ensures))
+    let add = c .before .before .before .before .before .before .before .before .add in
+    let a = c .before .before .before .before .before .before .before .before .before .before .before .before .args in (
+      c .before .before .before .before .before .before .add2 .ensures ∙ ap (λ (z : List ℕ). onto (λ (x y : ℕ). x ⊕ y) z (a .f .now)) (add .ensures),
+      (
+        c .before .before .double-add2 .ensures
+            ∙ ap (λ (z : List ℕ). onto (λ (x y : ℕ). 2 ⊗ x ⊕ y) z (a .f .now)) (c .before .before .before .before .double-add .ensures),
+        c .quadruple-add-two .ensures,
+      ),
+    )
 
 pub two-more-spec : {M : Type 1} → statement M
 two-more-spec =

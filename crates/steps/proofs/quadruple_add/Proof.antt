@@ -46,8 +46,11 @@ loop-again : tie.Need-loop-again Inv-loop μ-loop
 unfolding _⊕_
 loop-again c =
     let at = c .before .before .before .before .before in
-    let h = at .loop .inv .1 in
-    (search needs, turn _ h (omega arith) (omega arith) (ap₂ _⊕_ (c .before .double2 .ensures ∙ ap (λ (x : ℕ). 2 ⊗ x) (c .before .before .double .ensures) ∙ four-times _) refl))
+    let h = at .loop .inv .1 in (
+      search needs,
+      turn _ h (omega arith) (omega arith)
+          (ap₂ _⊕_ (c .before .double2 .ensures ∙ ap (λ (x : ℕ). 2 ⊗ x) (c .before .before .double .ensures) ∙ four-times _) refl),
+    )
 
 same-length : tie.Need-same-length Inv-loop μ-loop
 same-length c = search needs

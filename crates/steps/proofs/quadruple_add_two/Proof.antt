@@ -60,8 +60,13 @@ loop-again c =
     let es = s .e .now in
     let x = getD (at .a) (at .q) 0 in
     let y = getD ds (at .q) 0 in
-    let z = getD es (at .q) 0 in
-    (search needs, turn _ (at .inv .1) (omega arith) (omega (arith, both-long lower ds es (at .q + 1) (omega arith) (omega arith))) (ap (λ (r : ℕ). r ⊕ z) (c .before .sixteen-and-four .ensures) ∙ add-assoc (16 ⊗ x) (4 ⊗ y) z ∙ ap (λ (w : ℕ). 16 ⊗ x ⊕ w) (sym (both-at lower ds es (at .q) (omega arith) (omega arith)))))
+    let z = getD es (at .q) 0 in (
+      search needs,
+      turn _ (at .inv .1) (omega arith) (omega (arith, both-long lower ds es (at .q + 1) (omega arith) (omega arith)))
+          (ap (λ (r : ℕ). r ⊕ z) (c .before .sixteen-and-four .ensures)
+          ∙ add-assoc (16 ⊗ x) (4 ⊗ y) z
+          ∙ ap (λ (w : ℕ). 16 ⊗ x ⊕ w) (sym (both-at lower ds es (at .q) (omega arith) (omega arith)))),
+    )
 
 same-length : tie.Need-same-length Inv-loop μ-loop
 same-length c = search needs
@@ -69,7 +74,8 @@ same-length c = search needs
 returns : tie.Need-returns Inv-loop μ-loop
 returns c =
     let s = c .before .before .before .before .before .before .before .args in
-    done (c .before .loop .inv .1) (c .loop-test .left) (shortest lower (s .a .now) (s .d .now) (s .e .now) _ _ (c .before .before .before .shorter .ensures .1 .1) (c .before .before .shorter2 .ensures .1 .1))
+    done (c .before .loop .inv .1) (c .loop-test .left)
+    (shortest lower (s .a .now) (s .d .now) (s .e .now) _ _ (c .before .before .before .shorter .ensures .1 .1) (c .before .before .shorter2 .ensures .1 .1))
 
 pub quadruple-add-two-spec : {M : Type 1} → statement M
 quadruple-add-two-spec =

@@ -30,7 +30,13 @@ fits : (c : tie.In-loop Inv-loop μ-loop)
     → c .before .loop .j * c .before .before .before .before .args .s .l + c .before .before .before .before .args .s .l ≤ length (c .before .loop .out)
 fits c =
     let a = c .before .before .before .before in
-    omega (arith, mul-le-mul-right (a .args .s .l) (c .loop-test .taken), suc-mul (c .before .loop .j) (a .args .s .l), a .pre .0, c .before .loop .inv .1 .long)
+    omega (
+      arith,
+      mul-le-mul-right (a .args .s .l) (c .loop-test .taken),
+      suc-mul (c .before .loop .j) (a .args .s .l),
+      a .pre .0,
+      c .before .loop .inv .1 .long,
+    )
 
 mul-a : tie.Need-mul-a Inv-loop μ-loop
 mul-a c = omega (arith, fits c)

@@ -11,7 +11,9 @@ mul-d : tie.Need-mul-d
 mul-d c = search needs
 
 slice-aggregate-encode : tie.Need-slice-aggregate-encode
-slice-aggregate-encode c = sym (data-of-length (c .before .before .before .args .s) (c .before .before .before .args .stripe .now) (c .before .before .before .pre .long))
+slice-aggregate-encode c =
+    let start = c .before .before .before in
+    sym (data-of-length (start .args .s) (start .args .stripe .now) (start .pre .long))
 
 encode-requires : tie.Need-encode-requires
 encode-requires c κs = search needs
@@ -38,10 +40,12 @@ same-length c = search needs
 
 returns : tie.Need-returns
 returns c =
+    let encode = c .before .before .before .before .before .before .before .before .before .before .before .encode in
     let s = c .before .before .before .before .before .before .before .before .before .before .before .before .before .before .before .before in
     divided-lacks (s .args .s) (s .args .x) (s .args .stripe .now) _ _
-    (whole-lacks (s .args .s) (s .args .stripe .now) (s .args .out .now) _ _ (first-lent _ _ _ _ (s .pre)) (λ i. c .before .before .before .before .slice-known3 .given i .fits)
-    (c .before .before .before .before .before .before .before .before .before .before .before .encode .ensures .1)
+    (whole-lacks (s .args .s) (s .args .stripe .now) (s .args .out .now) _ _ (first-lent _ _ _ _ (s .pre))
+    (λ i. c .before .before .before .before .slice-known3 .given i .fits)
+    (encode .ensures .1)
     (c .before .before .before .before .before .before .add .ensures ∙ ap (onto _ _) (rest (s .args .s) (s .args .stripe .now) (s .pre .long))))
     (λ i. c .slice-known4 .given i .fits) (c .before .before .divide .ensures)
 

@@ -23,7 +23,8 @@ same-length c = search needs
 
 returns-2 : tie.Need-returns-2
 returns-2 c =
-    let h = c .before .before .before .before .before .before .before .lent .ensures .so (not-false _ (c .before .before .before .before .before .before .if1 .left)) in
+    let lent′ = c .before .before .before .before .before .before .before .lent in
+    let h = lent′ .ensures .so (not-false _ (c .before .before .before .before .before .before .if1 .left)) in
     record { lent = λ g. c .before .before .fill-whole .ensures; not-lent = λ n. absurd (n h) }
 
 fill-apart-requires : tie.Need-fill-apart-requires
@@ -36,11 +37,14 @@ same-length-2 c = search needs
 
 returns-3 : tie.Need-returns-3
 returns-3 c =
+    let lent′ = c .before .before .before .before .before .before .before .lent in
     let a = c .before .before .before .before .before .before .before .before .before .before .args in
-    let h = c .before .before .before .before .before .before .before .lent .ensures .so (not-false _ (c .before .before .before .before .before .before .if1 .left)) in
+    let h = lent′ .ensures .so (not-false _ (c .before .before .before .before .before .before .if1 .left)) in
     let b = c .before .before .before .before .before .in-blocks .ensures (not-false _ (c .before .before .before .before .if2 .left)) in
     record {
-      lent = λ g. plain-lacks (a .s) (a .x) (a .stripe .now) _ (h .shape) (set-apart (a .s) (a .x) _ _ h (b .later) .0) (λ i. c .slice-known3 .given i .fits) (c .before .before .fill-apart .ensures);
+      lent =
+          λ g. plain-lacks (a .s) (a .x) (a .stripe .now) _ (h .shape) (set-apart (a .s) (a .x) _ _ h (b .later) .0) (λ i. c .slice-known3 .given i .fits)
+          (c .before .before .fill-apart .ensures);
       not-lent = λ n. absurd (n h);
     }
 

@@ -33,9 +33,10 @@ same-length-2 c = search needs
 
 returns-2 : tie.Need-returns-2
 returns-2 c =
+    let sixteenfold-all = c .before .before .before .before .before .before .sixteenfold-all in
     let z = c .before .before .before .before .before .before .before .before .before .before .before .before .before in
     c .before .before .shifted2 .ensures
-    ∙ ap (λ (l : List ℕ). onto (λ (x y : ℕ). gpow (z .args .e - 4) ⊗ x ⊕ y) l (now (z .args .d))) (c .before .before .before .before .before .before .sixteenfold-all .ensures)
+    ∙ ap (λ (l : List ℕ). onto (λ (x y : ℕ). gpow (z .args .e - 4) ⊗ x ⊕ y) l (now (z .args .d))) (sixteenfold-all .ensures)
     ∙ weight-four _ _ _ (search needs) (search needs)
 
 power-requires : tie.Need-power-requires

@@ -56,7 +56,9 @@ loop-again c =
     v .inv ∙ ascends-turn (now (a .lost)) (a .n) (v .least) (v .i) (c .before .before .before .loop-test .taken) (c .before .if1 .left) (c .if2 .left)
 
 returns-3 : tie.Need-returns-3 Inv-loop μ-loop
-returns-3 c = let v = c .before .loop in sym (v .inv ∙ ascends-done (now (c .before .before .args .lost)) (c .before .before .args .n) (v .least) (v .i) (c .loop-test .left))
+returns-3 c =
+    let v = c .before .loop in
+    sym (v .inv ∙ ascends-done (now (c .before .before .args .lost)) (c .before .before .args .n) (v .least) (v .i) (c .loop-test .left))
 
 pub ascends-below-spec : {M : Type 1} → statement M
 ascends-below-spec =

@@ -51,36 +51,106 @@ number-length-requires-5 c κs = search needs
 
 add-result : tie.Need-add-result
 add-result c =
-    let a = c .before .before .before .before .before .before .before .before .before .before .args in
-    omega (arith, head-bytes (a .s) (now (a .lost)), head-most (a .s) (now (a .lost)) (c .before .before .before .before .before .before .before .before .before .before .pre .1), c .before .before .before .before .before .before .before .number-length .ensures, c .before .before .before .before .before .number-length2 .ensures, c .before .before .before .number-length3 .ensures, c .before .number-length4 .ensures, c .number-length5 .ensures)
+    let start = c .before .before .before .before .before .before .before .before .before .before in
+    let number-length = c .before .before .before .before .before .before .before .number-length in
+    let a = start .args in
+    omega (
+      arith,
+      head-bytes (a .s) (now (a .lost)),
+      head-most (a .s) (now (a .lost)) (start .pre .1),
+      number-length .ensures,
+      c .before .before .before .before .before .number-length2 .ensures,
+      c .before .before .before .number-length3 .ensures,
+      c .before .number-length4 .ensures,
+      c .number-length5 .ensures,
+    )
 
 add-result-2 : tie.Need-add-result-2
 add-result-2 c =
-    let a = c .before .before .before .before .before .before .before .before .before .before .args in
-    omega (arith, head-bytes (a .s) (now (a .lost)), head-most (a .s) (now (a .lost)) (c .before .before .before .before .before .before .before .before .before .before .pre .1), c .before .before .before .before .before .before .before .number-length .ensures, c .before .before .before .before .before .number-length2 .ensures, c .before .before .before .number-length3 .ensures, c .before .number-length4 .ensures, c .number-length5 .ensures)
+    let start = c .before .before .before .before .before .before .before .before .before .before in
+    let number-length = c .before .before .before .before .before .before .before .number-length in
+    let a = start .args in
+    omega (
+      arith,
+      head-bytes (a .s) (now (a .lost)),
+      head-most (a .s) (now (a .lost)) (start .pre .1),
+      number-length .ensures,
+      c .before .before .before .before .before .number-length2 .ensures,
+      c .before .before .before .number-length3 .ensures,
+      c .before .number-length4 .ensures,
+      c .number-length5 .ensures,
+    )
 
 add-result-3 : tie.Need-add-result-3
 add-result-3 c =
-    let a = c .before .before .before .before .before .before .before .before .before .before .args in
-    omega (arith, head-bytes (a .s) (now (a .lost)), head-most (a .s) (now (a .lost)) (c .before .before .before .before .before .before .before .before .before .before .pre .1), c .before .before .before .before .before .before .before .number-length .ensures, c .before .before .before .before .before .number-length2 .ensures, c .before .before .before .number-length3 .ensures, c .before .number-length4 .ensures, c .number-length5 .ensures)
+    let start = c .before .before .before .before .before .before .before .before .before .before in
+    let number-length = c .before .before .before .before .before .before .before .number-length in
+    let a = start .args in
+    omega (
+      arith,
+      head-bytes (a .s) (now (a .lost)),
+      head-most (a .s) (now (a .lost)) (start .pre .1),
+      number-length .ensures,
+      c .before .before .before .before .before .number-length2 .ensures,
+      c .before .before .before .number-length3 .ensures,
+      c .before .number-length4 .ensures,
+      c .number-length5 .ensures,
+    )
 
 add-result-4 : tie.Need-add-result-4
 add-result-4 c =
-    let a = c .before .before .before .before .before .before .before .before .before .before .args in
-    omega (arith, head-bytes (a .s) (now (a .lost)), head-most (a .s) (now (a .lost)) (c .before .before .before .before .before .before .before .before .before .before .pre .1), c .before .before .before .before .before .before .before .number-length .ensures, c .before .before .before .before .before .number-length2 .ensures, c .before .before .before .number-length3 .ensures, c .before .number-length4 .ensures, c .number-length5 .ensures)
+    let start = c .before .before .before .before .before .before .before .before .before .before in
+    let number-length = c .before .before .before .before .before .before .before .number-length in
+    let a = start .args in
+    omega (
+      arith,
+      head-bytes (a .s) (now (a .lost)),
+      head-most (a .s) (now (a .lost)) (start .pre .1),
+      number-length .ensures,
+      c .before .before .before .before .before .number-length2 .ensures,
+      c .before .before .before .number-length3 .ensures,
+      c .before .number-length4 .ensures,
+      c .number-length5 .ensures,
+    )
 
 positions-length-requires : tie.Need-positions-length-requires
 positions-length-requires c κs = search needs
 
 add-result-5 : tie.Need-add-result-5
 add-result-5 c =
-    let a = c .before .before .before .before .before .before .before .before .before .before .before .args in
-    omega (arith, head-bytes (a .s) (now (a .lost)), head-most (a .s) (now (a .lost)) (c .before .before .before .before .before .before .before .before .before .before .before .pre .1), c .before .before .before .before .before .before .before .before .number-length .ensures, c .before .before .before .before .before .before .number-length2 .ensures, c .before .before .before .before .number-length3 .ensures, c .before .before .number-length4 .ensures, c .before .number-length5 .ensures, c .positions-length .ensures)
+    let start = c .before .before .before .before .before .before .before .before .before .before .before in
+    let number-length = c .before .before .before .before .before .before .before .before .number-length in
+    let number-length2 = c .before .before .before .before .before .before .number-length2 in
+    let a = start .args in
+    omega (
+      arith,
+      head-bytes (a .s) (now (a .lost)),
+      head-most (a .s) (now (a .lost)) (start .pre .1),
+      number-length .ensures,
+      number-length2 .ensures,
+      c .before .before .before .before .number-length3 .ensures,
+      c .before .before .number-length4 .ensures,
+      c .before .number-length5 .ensures,
+      c .positions-length .ensures,
+    )
 
 returns : tie.Need-returns
 returns c =
-    let a = c .before .before .before .before .before .before .before .before .before .before .before .args in
-    omega (arith, head-bytes (a .s) (now (a .lost)), head-most (a .s) (now (a .lost)) (c .before .before .before .before .before .before .before .before .before .before .before .pre .1), c .before .before .before .before .before .before .before .before .number-length .ensures, c .before .before .before .before .before .before .number-length2 .ensures, c .before .before .before .before .number-length3 .ensures, c .before .before .number-length4 .ensures, c .before .number-length5 .ensures, c .positions-length .ensures)
+    let start = c .before .before .before .before .before .before .before .before .before .before .before in
+    let number-length = c .before .before .before .before .before .before .before .before .number-length in
+    let number-length2 = c .before .before .before .before .before .before .number-length2 in
+    let a = start .args in
+    omega (
+      arith,
+      head-bytes (a .s) (now (a .lost)),
+      head-most (a .s) (now (a .lost)) (start .pre .1),
+      number-length .ensures,
+      number-length2 .ensures,
+      c .before .before .before .before .number-length3 .ensures,
+      c .before .before .number-length4 .ensures,
+      c .before .number-length5 .ensures,
+      c .positions-length .ensures,
+    )
 
 pub head-length-spec : {M : Type 1} → statement M
 head-length-spec =

@@ -11,7 +11,8 @@ use Rattle.stripe.specs.Shape.{columns}
 use Rattle.stripe.proofs.Ascending.{ascending-says}
 use Rattle.record.specs.Layout.{recordOf}
 use Rattle.record.proofs.Refusals.{described}
-use Rattle.writing.proofs.Putting.{few-lost, head-most, record-bytes, write-stripe, write-buffer, write-order, write-long, write-room, write-lawful, unwritten-is, written-is}
+use Rattle.writing.proofs.Putting.{few-lost, head-most, record-bytes, write-stripe, write-buffer, write-order}
+use Rattle.writing.proofs.Putting.{write-long, write-room, write-lawful, unwritten-is, written-is}
 use Rattle.writing.proofs.judge_writing.Statement.{statement}
 use Rattle.writing.proofs.judge_writing.Tie as tie
 
@@ -23,10 +24,12 @@ unwritten-requires c κs = search needs
 
 returns : tie.Need-returns
 returns c =
+    let stripe-refusal = c .before .before .stripe-refusal in
     let a = c .before .before .before .before .before .args in
     let xs = now (a .stripe) in
     let es = now (a .lost) in
-    unwritten-is (a .s) xs es (a .room) (c .before .before .stripe-refusal .result) (c .unwritten .result) (c .unwritten .ensures) (write-stripe (a .s) xs es (a .room) (c .before .before .stripe-refusal .result) (c .before .before .stripe-refusal .ensures) (c .before .if1 .taken)) (c .before .if1 .taken)
+    unwritten-is (a .s) xs es (a .room) (stripe-refusal .result) (c .unwritten .result) (c .unwritten .ensures)
+    (write-stripe (a .s) xs es (a .room) (stripe-refusal .result) (stripe-refusal .ensures) (c .before .if1 .taken)) (c .before .if1 .taken)
 
 add-n : tie.Need-add-n
 add-n c =
@@ -56,7 +59,8 @@ returns-2 c =
     let es = now (a .lost) in
     let one = sym (c .before .before .before .before .before .stripe-refusal .ensures) ∙ c .before .before .before .before .if1 .left in
     let d = described (a .s) one in
-    unwritten-is (a .s) xs es (a .room) 5 (c .unwritten2 .result) (c .unwritten2 .ensures) (write-buffer (a .s) xs es (a .room) one (c .before .if2 .taken)) (λ z. omega arith)
+    unwritten-is (a .s) xs es (a .room) 5 (c .unwritten2 .result) (c .unwritten2 .ensures) (write-buffer (a .s) xs es (a .room) one (c .before .if2 .taken))
+    (λ z. omega arith)
 
 ascends-below-requires : tie.Need-ascends-below-requires
 ascends-below-requires c κs = search needs
@@ -66,12 +70,14 @@ unwritten-requires-3 c κs = search needs
 
 returns-3 : tie.Need-returns-3
 returns-3 c =
+    let stripe-refusal = c .before .before .before .before .before .before .before .stripe-refusal in
     let a = c .before .before .before .before .before .before .before .before .before .before .args in
     let xs = now (a .stripe) in
     let es = now (a .lost) in
-    let one = sym (c .before .before .before .before .before .before .before .stripe-refusal .ensures) ∙ c .before .before .before .before .before .before .if1 .left in
+    let one = sym (stripe-refusal .ensures) ∙ c .before .before .before .before .before .before .if1 .left in
     let d = described (a .s) one in
-    unwritten-is (a .s) xs es (a .room) 6 (c .unwritten3 .result) (c .unwritten3 .ensures) (write-order (a .s) xs es (a .room) one (c .before .before .before .if2 .left) (sym (c .before .before .ascends-below .ensures) ∙ not-true _ (c .before .if3 .taken))) (λ z. omega arith)
+    unwritten-is (a .s) xs es (a .room) 6 (c .unwritten3 .result) (c .unwritten3 .ensures) (write-order (a .s) xs es (a .room) one
+    (c .before .before .before .if2 .left) (sym (c .before .before .ascends-below .ensures) ∙ not-true _ (c .before .if3 .taken))) (λ z. omega arith)
 
 head-length-requires : tie.Need-head-length-requires
 head-length-requires c κs =
@@ -87,10 +93,11 @@ head-length-requires c κs =
 
 sub-length : tie.Need-sub-length
 sub-length c =
+    let stripe-refusal = c .before .before .before .before .before .before .before .stripe-refusal in
     let a = c .before .before .before .before .before .before .before .before .before .before .args in
     let xs = now (a .stripe) in
     let es = now (a .lost) in
-    let one = sym (c .before .before .before .before .before .before .before .stripe-refusal .ensures) ∙ c .before .before .before .before .before .before .if1 .left in
+    let one = sym (stripe-refusal .ensures) ∙ c .before .before .before .before .before .before .if1 .left in
     let d = described (a .s) one in
     let ord = sym (c .before .before .ascends-below .ensures) ∙ not-false _ (c .before .if3 .left) in
     let asc = ascending-says 0 (columns (a .s)) es ord in
@@ -99,10 +106,12 @@ sub-length c =
 
 mul-length : tie.Need-mul-length
 mul-length c =
+    let stripe-refusal = c .before .before .before .before .before .before .before .before .stripe-refusal in
+    let if1 = c .before .before .before .before .before .before .before .if1 in
     let a = c .before .before .before .before .before .before .before .before .before .before .before .args in
     let xs = now (a .stripe) in
     let es = now (a .lost) in
-    let one = sym (c .before .before .before .before .before .before .before .before .stripe-refusal .ensures) ∙ c .before .before .before .before .before .before .before .if1 .left in
+    let one = sym (stripe-refusal .ensures) ∙ if1 .left in
     let d = described (a .s) one in
     let ord = sym (c .before .before .before .ascends-below .ensures) ∙ not-false _ (c .before .before .if3 .left) in
     let asc = ascending-says 0 (columns (a .s)) es ord in
@@ -111,60 +120,91 @@ mul-length c =
 
 add-length : tie.Need-add-length
 add-length c =
+    let stripe-refusal = c .before .before .before .before .before .before .before .before .stripe-refusal in
+    let if1 = c .before .before .before .before .before .before .before .if1 in
     let a = c .before .before .before .before .before .before .before .before .before .before .before .args in
     let xs = now (a .stripe) in
     let es = now (a .lost) in
-    let one = sym (c .before .before .before .before .before .before .before .before .stripe-refusal .ensures) ∙ c .before .before .before .before .before .before .before .if1 .left in
+    let one = sym (stripe-refusal .ensures) ∙ if1 .left in
     let d = described (a .s) one in
     let ord = sym (c .before .before .before .ascends-below .ensures) ∙ not-false _ (c .before .before .if3 .left) in
     let asc = ascending-says 0 (columns (a .s)) es ord in
     let few = few-lost (columns (a .s)) es asc in
-    omega (arith, d .1, mul-le-mul-right {m = columns (a .s) - length es} {n = columns (a .s)} (a .s .l) (omega arith), c .before .head-length .ensures, head-most (a .s) es (omega (arith, few, d .0 .data-most, d .0 .parity-most)))
+    omega (
+      arith,
+      d .1,
+      mul-le-mul-right {m = columns (a .s) - length es} {n = columns (a .s)} (a .s .l) (omega arith),
+      c .before .head-length .ensures,
+      head-most (a .s) es (omega (arith, few, d .0 .data-most, d .0 .parity-most)),
+    )
 
 unwritten-requires-4 : tie.Need-unwritten-requires-4
 unwritten-requires-4 c κs = search needs
 
 returns-4 : tie.Need-returns-4
 returns-4 c =
+    let stripe-refusal = c .before .before .before .before .before .before .before .before .before .before .stripe-refusal in
+    let if1 = c .before .before .before .before .before .before .before .before .before .if1 in
+    let if2 = c .before .before .before .before .before .before .if2 in
+    let head-length = c .before .before .before .head-length in
     let a = c .before .before .before .before .before .before .before .before .before .before .before .before .before .args in
     let xs = now (a .stripe) in
     let es = now (a .lost) in
-    let one = sym (c .before .before .before .before .before .before .before .before .before .before .stripe-refusal .ensures) ∙ c .before .before .before .before .before .before .before .before .before .if1 .left in
+    let one = sym (stripe-refusal .ensures) ∙ if1 .left in
     let d = described (a .s) one in
     let ord = sym (c .before .before .before .before .before .ascends-below .ensures) ∙ not-false _ (c .before .before .before .before .if3 .left) in
     let asc = ascending-says 0 (columns (a .s)) es ord in
     let few = few-lost (columns (a .s)) es asc in
-    let len : c .before .before .before .head-length .result + (columns (a .s) - length es) * a .s .l ≡ length (recordOf (a .s) es xs) = ap (λ (n : ℕ). n + (columns (a .s) - length es) * a .s .l) (c .before .before .before .head-length .ensures) ∙ sym (record-bytes (a .s) es xs asc (c .before .before .before .before .before .before .if2 .left)) in
-    unwritten-is (a .s) xs es (a .room) 5 (c .unwritten4 .result) (c .unwritten4 .ensures) (write-long (a .s) xs es (a .room) one (c .before .before .before .before .before .before .if2 .left) ord (omega (arith, len, c .before .if4 .taken))) (λ z. omega arith)
+    let len : head-length .result + (columns (a .s) - length es) * a .s .l ≡ length (recordOf (a .s) es xs) = ap
+    (λ (n : ℕ). n + (columns (a .s) - length es) * a .s .l) (head-length .ensures)
+    ∙ sym (record-bytes (a .s) es xs asc (if2 .left)) in
+    unwritten-is (a .s) xs es (a .room) 5 (c .unwritten4 .result) (c .unwritten4 .ensures)
+    (write-long (a .s) xs es (a .room) one (if2 .left) ord (omega (arith, len, c .before .if4 .taken))) (λ z. omega arith)
 
 unwritten-requires-5 : tie.Need-unwritten-requires-5
 unwritten-requires-5 c κs = search needs
 
 returns-5 : tie.Need-returns-5
 returns-5 c =
+    let stripe-refusal = c .before .before .before .before .before .before .before .before .before .before .before .stripe-refusal in
+    let if1 = c .before .before .before .before .before .before .before .before .before .before .if1 in
+    let if2 = c .before .before .before .before .before .before .before .if2 in
+    let ascends-below = c .before .before .before .before .before .before .ascends-below in
+    let head-length = c .before .before .before .before .head-length in
     let a = c .before .before .before .before .before .before .before .before .before .before .before .before .before .before .args in
     let xs = now (a .stripe) in
     let es = now (a .lost) in
-    let one = sym (c .before .before .before .before .before .before .before .before .before .before .before .stripe-refusal .ensures) ∙ c .before .before .before .before .before .before .before .before .before .before .if1 .left in
+    let one = sym (stripe-refusal .ensures) ∙ if1 .left in
     let d = described (a .s) one in
-    let ord = sym (c .before .before .before .before .before .before .ascends-below .ensures) ∙ not-false _ (c .before .before .before .before .before .if3 .left) in
+    let ord = sym (ascends-below .ensures) ∙ not-false _ (c .before .before .before .before .before .if3 .left) in
     let asc = ascending-says 0 (columns (a .s)) es ord in
     let few = few-lost (columns (a .s)) es asc in
-    let len : c .before .before .before .before .head-length .result + (columns (a .s) - length es) * a .s .l ≡ length (recordOf (a .s) es xs) = ap (λ (n : ℕ). n + (columns (a .s) - length es) * a .s .l) (c .before .before .before .before .head-length .ensures) ∙ sym (record-bytes (a .s) es xs asc (c .before .before .before .before .before .before .before .if2 .left)) in
-    unwritten-is (a .s) xs es (a .room) 5 (c .unwritten5 .result) (c .unwritten5 .ensures) (write-room (a .s) xs es (a .room) one (c .before .before .before .before .before .before .before .if2 .left) ord (omega (arith, len, c .before .before .if4 .left)) (omega (arith, len, c .before .if5 .taken))) (λ z. omega arith)
+    let len : head-length .result + (columns (a .s) - length es) * a .s .l ≡ length (recordOf (a .s) es xs) = ap
+    (λ (n : ℕ). n + (columns (a .s) - length es) * a .s .l) (head-length .ensures)
+    ∙ sym (record-bytes (a .s) es xs asc (if2 .left)) in
+    unwritten-is (a .s) xs es (a .room) 5 (c .unwritten5 .result) (c .unwritten5 .ensures)
+    (write-room (a .s) xs es (a .room) one (if2 .left) ord (omega (arith, len, c .before .before .if4 .left)) (omega (arith, len, c .before .if5 .taken)))
+    (λ z. omega arith)
 
 returns-6 : tie.Need-returns-6
 returns-6 c =
+    let stripe-refusal = c .before .before .before .before .before .before .before .before .before .before .stripe-refusal in
+    let if1 = c .before .before .before .before .before .before .before .before .before .if1 in
+    let if2 = c .before .before .before .before .before .before .if2 in
+    let head-length = c .before .before .before .head-length in
     let a = c .before .before .before .before .before .before .before .before .before .before .before .before .before .args in
     let xs = now (a .stripe) in
     let es = now (a .lost) in
-    let one = sym (c .before .before .before .before .before .before .before .before .before .before .stripe-refusal .ensures) ∙ c .before .before .before .before .before .before .before .before .before .if1 .left in
+    let one = sym (stripe-refusal .ensures) ∙ if1 .left in
     let d = described (a .s) one in
     let ord = sym (c .before .before .before .before .before .ascends-below .ensures) ∙ not-false _ (c .before .before .before .before .if3 .left) in
     let asc = ascending-says 0 (columns (a .s)) es ord in
     let few = few-lost (columns (a .s)) es asc in
-    let len : c .before .before .before .head-length .result + (columns (a .s) - length es) * a .s .l ≡ length (recordOf (a .s) es xs) = ap (λ (n : ℕ). n + (columns (a .s) - length es) * a .s .l) (c .before .before .before .head-length .ensures) ∙ sym (record-bytes (a .s) es xs asc (c .before .before .before .before .before .before .if2 .left)) in
-    written-is (a .s) xs es (a .room) _ len (sym (write-lawful (a .s) xs es (a .room) one (c .before .before .before .before .before .before .if2 .left) ord (omega (arith, len, c .before .if4 .left)) (omega (arith, len, c .if5 .left))))
+    let len : head-length .result + (columns (a .s) - length es) * a .s .l ≡ length (recordOf (a .s) es xs) = ap
+    (λ (n : ℕ). n + (columns (a .s) - length es) * a .s .l) (head-length .ensures)
+    ∙ sym (record-bytes (a .s) es xs asc (if2 .left)) in
+    written-is (a .s) xs es (a .room) _ len
+    (sym (write-lawful (a .s) xs es (a .room) one (if2 .left) ord (omega (arith, len, c .before .if4 .left)) (omega (arith, len, c .if5 .left))))
 
 pub judge-writing-spec : {M : Type 1} → statement M
 judge-writing-spec =

@@ -15,7 +15,11 @@ write-number-requires c κs = search needs
 add-result : tie.Need-add-result
 add-result c =
     let a = c .before .before .before .before .before .args in
-    omega (arith, all-placed (now (a .out)) (a .at) (written (a .value)) (c .before .before .before .before .before .pre) .0, c .before .before .write-number .ensures .0)
+    omega (
+      arith,
+      all-placed (now (a .out)) (a .at) (written (a .value)) (c .before .before .before .before .before .pre) .0,
+      c .before .before .write-number .ensures .0,
+    )
 
 same-length : tie.Need-same-length
 same-length c = search needs

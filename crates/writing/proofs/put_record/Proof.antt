@@ -11,31 +11,43 @@ use Rattle.writing.proofs.put_record.Tie as tie
 put-head-requires : tie.Need-put-head-requires
 put-head-requires c κs =
     let a = c .before .before .before .before .args in
-    let w = writable (a .s) (now (a .stripe)) (now (a .lost)) (length (now (a .out))) (c .before .before .before .before .pre) in
-    (w .stripe-described, (lost-most (a .s) (now (a .stripe)) (now (a .lost)) (length (now (a .out))) w, omega (arith, columns-bytes (a .s) (now (a .stripe)) (now (a .lost)) (length (now (a .out))) w, w .fits)))
+    let w = writable (a .s) (now (a .stripe)) (now (a .lost)) (length (now (a .out))) (c .before .before .before .before .pre) in (
+      w .stripe-described,
+      (
+        lost-most (a .s) (now (a .stripe)) (now (a .lost)) (length (now (a .out))) w,
+        omega (arith, columns-bytes (a .s) (now (a .stripe)) (now (a .lost)) (length (now (a .out))) w, w .fits),
+      ),
+    )
 
 add-put-columns : tie.Need-add-put-columns
 add-put-columns c =
-    let a = c .before .before .before .before .before .before .before .before .args in
-    let w = writable (a .s) (now (a .stripe)) (now (a .lost)) (length (now (a .out))) (c .before .before .before .before .before .before .before .before .pre) in
+    let start = c .before .before .before .before .before .before .before .before in
+    let a = start .args in
+    let w = writable (a .s) (now (a .stripe)) (now (a .lost)) (length (now (a .out))) (start .pre) in
     let d = described (a .s) (w .stripe-described) .0 in
     omega (arith, d .data-most, d .parity-most)
 
 put-columns-requires : tie.Need-put-columns-requires
 put-columns-requires c κs =
-    let a = c .before .before .before .before .before .before .before .before .before .args in
-    let w = writable (a .s) (now (a .stripe)) (now (a .lost)) (length (now (a .out))) (c .before .before .before .before .before .before .before .before .before .pre) in
-    (omega (arith, w .exact), omega (arith, columns-bytes (a .s) (now (a .stripe)) (now (a .lost)) (length (now (a .out))) w, w .fits, c .before .before .before .before .put-head .ensures .0, c .before .before .before .before .put-head .kept .1 .1 .0))
+    let start = c .before .before .before .before .before .before .before .before .before in
+    let put-head = c .before .before .before .before .put-head in
+    let a = start .args in
+    let w = writable (a .s) (now (a .stripe)) (now (a .lost)) (length (now (a .out))) (start .pre) in (
+      omega (arith, w .exact),
+      omega (arith, columns-bytes (a .s) (now (a .stripe)) (now (a .lost)) (length (now (a .out))) w, w .fits, put-head .ensures .0, put-head .kept .1 .1 .0),
+    )
 
 same-length : tie.Need-same-length
 same-length c = search needs
 
 returns : tie.Need-returns
 returns c =
-    let a = c .before .before .before .before .before .before .before .before .before .before .before .before .args in
-    let w = writable (a .s) (now (a .stripe)) (now (a .lost)) (length (now (a .out))) (c .before .before .before .before .before .before .before .before .before .before .before .before .pre) in
+    let start = c .before .before .before .before .before .before .before .before .before .before .before .before in
+    let a = start .args in
+    let w = writable (a .s) (now (a .stripe)) (now (a .lost)) (length (now (a .out))) (start .pre) in
     let h = c .before .before .before .before .before .before .before .put-head in
-    record-put (a .s) (now (a .lost)) (now (a .stripe)) (now (a .out)) (h .last .1 .1 .0) _ (h .result) (h .ensures .1) (h .ensures .0) (c .before .before .put-columns .ensures)
+    record-put (a .s) (now (a .lost)) (now (a .stripe)) (now (a .out)) (h .last .1 .1 .0) _ (h .result) (h .ensures .1) (h .ensures .0)
+    (c .before .before .put-columns .ensures)
 
 pub put-record-spec : {M : Type 1} → statement M
 put-record-spec =

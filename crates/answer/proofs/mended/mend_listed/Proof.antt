@@ -35,7 +35,12 @@ array-share-prefix-list : tie.Need-array-share-prefix-list
 array-share-prefix-list c =
     let s = c .before .before .before .before .before .before .before in
     let p = c .before .before .put-pairs in
-    omega (arith, length-append (p .last .1 .0) (drop (2 * length (now (s .args .lost))) (c .before .before .before .before .blank-pairs .result)), ap length (p .ensures), pairs-length (now (s .args .lost)))
+    omega (
+      arith,
+      length-append (p .last .1 .0) (drop (2 * length (now (s .args .lost))) (c .before .before .before .before .blank-pairs .result)),
+      ap length (p .ensures),
+      pairs-length (now (s .args .lost)),
+    )
 
 slice-aggregate-mend : tie.Need-slice-aggregate-mend
 slice-aggregate-mend c =

@@ -33,7 +33,8 @@ returns-2 c =
     let a = c .before .before .before .before .before .before .args in
     answered-refused (now (a .bytes)) (now (a .stripe)) (now (a .lost)) [] 5 (c .refused2 .result)
     (outcome-unread (now (a .bytes)) (length (now (a .stripe))) (length (now (a .lost))) 5
-    (sym (lent-list (now (a .bytes)) (length (now (a .stripe))) (length (now (a .lost))) (c .before .before .if1 .left) (c .before .if2 .taken))) (λ z. omega arith))
+    (sym (lent-list (now (a .bytes)) (length (now (a .stripe))) (length (now (a .lost))) (c .before .before .if1 .left) (c .before .if2 .taken)))
+    (λ z. omega arith))
     (λ z. omega arith) (c .refused2 .ensures)
 
 blank-stripe-requires : tie.Need-blank-stripe-requires
@@ -53,11 +54,13 @@ read-and-mend-requires c κs = search needs
 
 returns-3 : tie.Need-returns-3
 returns-3 c =
+    let if1 = c .before .before .before .before .before .before .before .before .before .before .if1 in
+    let if2 = c .before .before .before .before .before .before .before .before .before .if2 in
     let r = c .before .before .before .before .read-and-mend in
     let a = c .before .before .before .before .before .before .before .before .before .before .before .before .before .before .args in
     answered-refused (now (a .bytes)) (now (a .stripe)) (now (a .lost)) (r .ensures .bytes) (r .result .number) (r .result)
     (outcome-lent (now (a .bytes)) (length (now (a .stripe))) (length (now (a .lost))) (r .result .number) (r .ensures .bytes)
-    (c .before .before .before .before .before .before .before .before .before .before .if1 .left) (c .before .before .before .before .before .before .before .before .before .if2 .left) (r .ensures .outcome)) (c .if3 .taken)
+    (if1 .left) (if2 .left) (r .ensures .outcome)) (c .if3 .taken)
     (r .ensures .reported ∙ sym (refused-is (now (a .bytes)) (r .result .number) (c .if3 .taken)))
 
 add-n : tie.Need-add-n
@@ -81,7 +84,8 @@ array-share-prefix-held c =
 slice-aggregate-copy : tie.Need-slice-aggregate-copy
 slice-aggregate-copy c =
     let r = c .before .before .before .before .before .before .before .before .read-and-mend in
-    let a = c .before .before .before .before .before .before .before .before .before .before .before .before .before .before .before .before .before .before .args in
+    let a =
+    c .before .before .before .before .before .before .before .before .before .before .before .before .before .before .before .before .before .before .args in
     sym (length-take-le ((r .result .shape .k + r .result .shape .r) * r .result .shape .l) (r .last .1 .0) (omega (arith, answer-stripe (now (a .bytes)) (r .result) (r .last .1 .0) (r .last .1 .1 .0) (r .ensures) (c .before .before .before .before .if3 .left), ap length (c .before .before .before .before .before .before .before .before .before .before .before .before .blank-stripe .ensures), blank-long)))
 
 copy-requires : tie.Need-copy-requires
@@ -89,23 +93,31 @@ copy-requires c κs = search needs
 
 array-share-prefix-list : tie.Need-array-share-prefix-list
 array-share-prefix-list c =
+    let earlier = c .before .before .before .before .before .before .before .before .before .before .before .before in
+    let blank-list = earlier .before .before .before .blank-list in
+    let if3 = c .before .before .before .before .before .before .before .before .if3 in
     let r = c .before .before .before .before .before .before .before .before .before .before .before .before .read-and-mend in
-    let a = c .before .before .before .before .before .before .before .before .before .before .before .before .before .before .before .before .before .before .before .before .before .before .args in
-    omega (arith, answer-list (now (a .bytes)) (r .result) (r .last .1 .0) (r .last .1 .1 .0) (r .ensures) (c .before .before .before .before .before .before .before .before .if3 .left), c .before .before .before .before .before .before .before .before .before .before .before .before .before .before .before .blank-list .ensures)
+    let a = earlier .before .before .before .before .before .before .before .before .before .before .args in
+    omega (arith, answer-list (now (a .bytes)) (r .result) (r .last .1 .0) (r .last .1 .1 .0) (r .ensures) (if3 .left), blank-list .ensures)
 
 slice-aggregate-put-list : tie.Need-slice-aggregate-put-list
 slice-aggregate-put-list c =
     let r = c .before .before .before .before .before .before .before .before .before .before .before .before .before .read-and-mend in
-    let a = c .before .before .before .before .before .before .before .before .before .before .before .before .before .before .before .before .before .before .before .before .before .before .before .args in
+    let a = c .before .before .before .before .before .before .before .before .before .before .before .before .before .before .before .before .before .before
+    .before .before .before .before .before .args in
     sym (length-take-le (r .result .lost) (r .last .1 .1 .0) (omega (arith, answer-list (now (a .bytes)) (r .result) (r .last .1 .0) (r .last .1 .1 .0) (r .ensures) (c .before .before .before .before .before .before .before .before .before .if3 .left), c .before .before .before .before .before .before .before .before .before .before .before .before .before .before .before .before .blank-list .ensures)))
 
 put-list-requires : tie.Need-put-list-requires
 put-list-requires c κs =
-    let r = c .before .before .before .before .before .before .before .before .before .before .before .before .before .read-and-mend in
-    let a = c .before .before .before .before .before .before .before .before .before .before .before .before .before .before .before .before .before .before .before .before .before .before .before .args in
-    let n = answer-list (now (a .bytes)) (r .result) (r .last .1 .0) (r .last .1 .1 .0) (r .ensures) (c .before .before .before .before .before .before .before .before .before .if3 .left) in
-    let l = length-take-le (r .result .lost) (r .last .1 .1 .0) (omega (arith, n, c .before .before .before .before .before .before .before .before .before .before .before .before .before .before .before .before .blank-list .ensures)) in
-    omega (arith, n, l, c .before .before .before .before .before .before .before .before .before .before .before .before .before .before .before .before .before .before .if2 .left)
+    let earlier = c .before .before .before .before .before .before .before .before .before in
+    let if2 = earlier .before .before .before .before .before .before .before .before .before .if2 in
+    let blank-list = earlier .before .before .before .before .before .before .before .blank-list in
+    let if3 = c .before .before .before .before .before .before .before .before .before .if3 in
+    let r = earlier .before .before .before .before .read-and-mend in
+    let a = earlier .before .before .before .before .before .before .before .before .before .before .before .before .before .before .args in
+    let n = answer-list (now (a .bytes)) (r .result) (r .last .1 .0) (r .last .1 .1 .0) (r .ensures) (if3 .left) in
+    let l = length-take-le (r .result .lost) (r .last .1 .1 .0) (omega (arith, n, blank-list .ensures)) in
+    omega (arith, n, l, if2 .left)
 
 same-length : tie.Need-same-length
 same-length c = search needs
@@ -115,11 +127,23 @@ same-length-2 c = search needs
 
 returns-4 : tie.Need-returns-4
 returns-4 c =
-    let r = c .before .before .before .before .before .before .before .before .before .before .before .before .before .before .before .before .read-and-mend in
-    let a = c .before .before .before .before .before .before .before .before .before .before .before .before .before .before .before .before .before .before .before .before .before .before .before .before .before .before .args in
+    let earlier = c .before .before .before .before .before .before .before .before .before .before .before .before in
+    let if1 = earlier .before .before .before .before .before .before .before .before .before .before .if1 in
+    let if2 = earlier .before .before .before .before .before .before .before .before .before .if2 in
+    let if3 = c .before .before .before .before .before .before .before .before .before .before .before .before .if3 in
+    let copy = c .before .before .before .before .before .before .before .copy in
+    let r = earlier .before .before .before .before .read-and-mend in
+    let a = earlier .before .before .before .before .before .before .before .before .before .before .before .before .before .before .args in
     let n = (r .result .shape .k + r .result .shape .r) * r .result .shape .l in
-    answered (now (a .bytes)) (r .result) (r .last .1 .0) (r .last .1 .1 .0) (r .ensures) (c .before .before .before .before .before .before .before .before .before .before .before .before .if3 .left) (now (a .stripe)) (now (a .lost)) _ _ (c .before .before .before .before .before .before .before .before .before .before .before .before .before .before .before .before .before .before .before .before .before .before .if1 .left) (c .before .before .before .before .before .before .before .before .before .before .before .before .before .before .before .before .before .before .before .before .before .if2 .left)
-    (c .before .before .before .before .before .before .before .copy .ensures ∙ copied-over (now (a .stripe)) (take n (r .last .1 .0)) (omega (arith, length-take n (r .last .1 .0), answer-stripe (now (a .bytes)) (r .result) (r .last .1 .0) (r .last .1 .1 .0) (r .ensures) (c .before .before .before .before .before .before .before .before .before .before .before .before .if3 .left), c .before .before .before .before .before .before .before .before .before .before .before .before .before .before .before .before .before .before .before .before .before .before .if1 .left))) (c .before .before .put-list .ensures)
+    answered (now (a .bytes)) (r .result) (r .last .1 .0) (r .last .1 .1 .0) (r .ensures) (if3 .left) (now (a .stripe)) (now (a .lost)) _ _ (if1 .left)
+    (if2 .left)
+    (copy .ensures
+    ∙ copied-over (now (a .stripe)) (take n (r .last .1 .0)) (omega (
+      arith,
+      length-take n (r .last .1 .0),
+      answer-stripe (now (a .bytes)) (r .result) (r .last .1 .0) (r .last .1 .1 .0) (r .ensures) (if3 .left),
+      if1 .left,
+    ))) (c .before .before .put-list .ensures)
 
 pub mend-record-spec : {M : Type 1} → statement M
 mend-record-spec =

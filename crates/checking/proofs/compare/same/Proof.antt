@@ -37,8 +37,9 @@ loop-less c = search needs
 
 loop-again : tie.Need-loop-again Inv-loop μ-loop
 loop-again c =
+    let loop = c .before .before .before .loop in
     let a = c .before .before .before .before .before .before .before .args in
-    (search needs, same-turn (a .a .now) (a .d .now) (c .before .before .before .loop .z) (c .before .before .before .loop .q) (omega arith) (omega arith) (c .before .before .before .loop .inv .1))
+    (search needs, same-turn (a .a .now) (a .d .now) (loop .z) (loop .q) (omega arith) (omega arith) (loop .inv .1))
 
 returns : tie.Need-returns Inv-loop μ-loop
 returns c = same-done _ _ (c .before .loop .z) _ _ (c .loop-test .left) (c .before .before .shorter .ensures .1 .1) (c .before .loop .inv .1)

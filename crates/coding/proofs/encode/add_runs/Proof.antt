@@ -16,7 +16,8 @@ abbrev shape : ℕ → ℕ → ℕ → ℕ → Shape
 shape k r t l = record { k = k; r = r; t = t; l = l }
 
 abbrev Inv-loop : tie.InvT-loop
-Inv-loop «data» i out₀ k r l t m j₀ out j = (r ≤ j) × (j ≤ t) × (m ≡ runLength (shape k r t l)) × Piggybacked (shape k r t l) «data» i (j * m) out × Beside l i out₀ out
+Inv-loop «data» i out₀ k r l t m j₀ out j =
+    (r ≤ j) × (j ≤ t) × (m ≡ runLength (shape k r t l)) × Piggybacked (shape k r t l) «data» i (j * m) out × Beside l i out₀ out
 
 abbrev μ-loop : tie.MeasureT-loop
 μ-loop «data» i out₀ k r l t m j₀ out j = t - j
@@ -98,7 +99,8 @@ loop-again c =
     let at = t .before .loop in
     let m = width t in
     let f = known-here t in
-    let g = added-run (a .«data» .now) (a .s .k) (a .s .l) (at .j) (a .i * m) (a .i * a .s .l + at .j * m) m (at .out) _ (omega (arith, here t)) (here t .known) (c .before .before .add-row .ensures) in (
+    let g = added-run (a .«data» .now) (a .s .k) (a .s .l) (at .j) (a .i * m) (a .i * a .s .l + at .j * m) m (at .out) _ (omega (arith, here t)) (here t .known)
+    (c .before .before .add-row .ensures) in (
       search needs,
       search needs,
       at .inv .2,

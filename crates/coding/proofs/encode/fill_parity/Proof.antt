@@ -19,14 +19,17 @@ returns c =
     let s = c .before .before .before .before .before .before .before in
     let ps = c .before .before .before .fill-rows .last .1 .1 .1 .1 .0 in
     let same : length ps ≡ length (s .args .out .now) = search needs in
-    plain-exact (s .args .s) _ (s .args .out .now) ps (s .pre) same (omega arith) (rows-filled (s .args .s) _ _ ps (s .pre) (c .before .before .before .fill-rows .ensures))
+    plain-exact (s .args .s) _ (s .args .out .now) ps (s .pre) same (omega arith)
+    (rows-filled (s .args .s) _ _ ps (s .pre) (c .before .before .before .fill-rows .ensures))
 
 add-piggybacks-requires : tie.Need-add-piggybacks-requires
 add-piggybacks-requires c κs =
     let s = c .before .before .before .before .before .before .before .before in
     let ps = c .before .before .before .before .fill-rows .last .1 .1 .1 .1 .0 in
-    let same : length ps ≡ length (s .args .out .now) = search needs in
-    (ap (encodeRefusal (s .args .s) (length (s .args .«data» .now))) same ∙ s .pre, (omega arith, rows-are (s .args .s) _ ps (rows-filled (s .args .s) _ _ ps (s .pre) (c .before .before .before .before .fill-rows .ensures))))
+    let same : length ps ≡ length (s .args .out .now) = search needs in (
+      ap (encodeRefusal (s .args .s) (length (s .args .«data» .now))) same ∙ s .pre,
+      (omega arith, rows-are (s .args .s) _ ps (rows-filled (s .args .s) _ _ ps (s .pre) (c .before .before .before .before .fill-rows .ensures))),
+    )
 
 same-length-2 : tie.Need-same-length-2
 same-length-2 c = search needs

@@ -36,7 +36,11 @@ mul-all c =
 
 loop-holds : tie.Need-loop-holds Inv-loop μ-loop
 loop-holds c =
-    let z = c .before .before .before .before .before in (search needs, take-start (z .args .s) (z .args .f) (z .pre .0) (z .args .first) (now (z .args .d)) (now (z .args .rows)) (now (z .args .parity)) (z .pre .1 .1 .0) (z .pre .1 .1 .1))
+    let z = c .before .before .before .before .before in (
+      search needs,
+      take-start (z .args .s) (z .args .f) (z .pre .0) (z .args .first) (now (z .args .d)) (now (z .args .rows)) (now (z .args .parity)) (z .pre .1 .1 .0)
+          (z .pre .1 .1 .1),
+    )
 
 mul-a : tie.Need-mul-a Inv-loop μ-loop
 mul-a c =
@@ -45,7 +49,11 @@ mul-a c =
     let qe = c .before .before .run-length .ensures in
     let l = c .before .loop in
     let t = c .loop-test .taken in
-    fits _ (omega (arith, cut-in (z .args .s) (z .args .f) (z .pre .0) (z .args .first) (now (z .args .d)) (now (z .args .rows)) (now (z .args .parity)) (z .pre .1 .1 .0) _ _ ce qe (l .i) t (length (l .parity)) (l .inv .1 .long)))
+    fits _ (omega (
+      arith,
+      cut-in (z .args .s) (z .args .f) (z .pre .0) (z .args .first) (now (z .args .d)) (now (z .args .rows)) (now (z .args .parity)) (z .pre .1 .1 .0) _ _ ce qe
+          (l .i) t (length (l .parity)) (l .inv .1 .long),
+    ))
 
 add-e : tie.Need-add-e Inv-loop μ-loop
 add-e c =
@@ -54,15 +62,21 @@ add-e c =
     let qe = c .before .before .run-length .ensures in
     let l = c .before .loop in
     let t = c .loop-test .taken in
-    fits _ (omega (arith, cut-in (z .args .s) (z .args .f) (z .pre .0) (z .args .first) (now (z .args .d)) (now (z .args .rows)) (now (z .args .parity)) (z .pre .1 .1 .0) _ _ ce qe (l .i) t (length (l .parity)) (l .inv .1 .long)))
+    fits _ (omega (
+      arith,
+      cut-in (z .args .s) (z .args .f) (z .pre .0) (z .args .first) (now (z .args .d)) (now (z .args .rows)) (now (z .args .parity)) (z .pre .1 .1 .0) _ _ ce qe
+          (l .i) t (length (l .parity)) (l .inv .1 .long),
+    ))
 
 div-j : tie.Need-div-j Inv-loop μ-loop
 div-j c =
-    let a = allowed _ (c .before .before .before .before .before .before .before .pre .0 .shape) in omega (arith, a .runs-some, c .before .before .before .runs .ensures)
+    let a = allowed _ (c .before .before .before .before .before .before .before .pre .0 .shape) in
+    omega (arith, a .runs-some, c .before .before .before .runs .ensures)
 
 rem-share-of : tie.Need-rem-share-of Inv-loop μ-loop
 rem-share-of c =
-    let a = allowed _ (c .before .before .before .before .before .before .before .pre .0 .shape) in omega (arith, a .runs-some, c .before .before .before .runs .ensures)
+    let a = allowed _ (c .before .before .before .before .before .before .before .pre .0 .shape) in
+    omega (arith, a .runs-some, c .before .before .before .runs .ensures)
 
 share-of-requires : tie.Need-share-of-requires Inv-loop μ-loop
 share-of-requires c κs =
@@ -70,8 +84,19 @@ share-of-requires c κs =
     let ce = c .before .before .before .runs .ensures in
     let qe = c .before .before .run-length .ensures in
     let l = c .before .loop in
-    let t = c .loop-test .taken in
-    (z .pre .0 .shape, (let w = new-limit (z .args .s) (z .args .f) (z .pre .0 .shape) (z .pre .0 .new) in omega (arith, row-lt (z .args .s) (z .args .f) (z .pre .0) (z .args .first) (now (z .args .d)) (now (z .args .rows)) (now (z .args .parity)) (z .pre .1 .1 .0) _ _ ce qe (l .i) t), number-lt (z .args .s) (z .args .f) (z .pre .0) (z .args .first) (now (z .args .d)) (now (z .args .rows)) (now (z .args .parity)) (z .pre .1 .1 .0) _ _ ce qe (l .i) t))
+    let t = c .loop-test .taken in (
+      z .pre .0 .shape,
+      (
+        let w = new-limit (z .args .s) (z .args .f) (z .pre .0 .shape) (z .pre .0 .new) in
+            omega (
+              arith,
+              row-lt (z .args .s) (z .args .f) (z .pre .0) (z .args .first) (now (z .args .d)) (now (z .args .rows)) (now (z .args .parity))
+                  (z .pre .1 .1 .0) _ _ ce qe (l .i) t,
+            ),
+        number-lt (z .args .s) (z .args .f) (z .pre .0) (z .args .first) (now (z .args .d)) (now (z .args .rows)) (now (z .args .parity)) (z .pre .1 .1 .0)
+            _ _ ce qe (l .i) t,
+      ),
+    )
 
 sub-take-share : tie.Need-sub-take-share Inv-loop μ-loop
 sub-take-share c = search needs
@@ -86,7 +111,11 @@ part-take-share-end c =
     let qe = c .before .before .before .run-length .ensures in
     let l = c .before .before .loop in
     let t = c .before .loop-test .taken in
-    omega (arith, cut-in (z .args .s) (z .args .f) (z .pre .0) (z .args .first) (now (z .args .d)) (now (z .args .rows)) (now (z .args .parity)) (z .pre .1 .1 .0) _ _ ce qe (l .i) t (length (l .parity)) (l .inv .1 .long))
+    omega (
+      arith,
+      cut-in (z .args .s) (z .args .f) (z .pre .0) (z .args .first) (now (z .args .d)) (now (z .args .rows)) (now (z .args .parity)) (z .pre .1 .1 .0) _ _ ce qe
+          (l .i) t (length (l .parity)) (l .inv .1 .long),
+    )
 
 mul-take-share : tie.Need-mul-take-share Inv-loop μ-loop
 mul-take-share c =
@@ -96,7 +125,8 @@ mul-take-share c =
     let l = c .before .before .before .loop in
     let t = c .before .before .loop-test .taken in
     let w = new-limit (z .args .s) (z .args .f) (z .pre .0 .shape) (z .pre .0 .new) in
-    let j = row-lt (z .args .s) (z .args .f) (z .pre .0) (z .args .first) (now (z .args .d)) (now (z .args .rows)) (now (z .args .parity)) (z .pre .1 .1 .0) _ _ ce qe (l .i) t in
+    let j = row-lt (z .args .s) (z .args .f) (z .pre .0) (z .args .first) (now (z .args .d)) (now (z .args .rows)) (now (z .args .parity)) (z .pre .1 .1 .0) _ _
+    ce qe (l .i) t in
     let h : l .i / (c .before .before .before .before .before .runs .result) ≤ mostRows = omega (arith, j) in
     fits _ (omega (arith, mul-le-mul {n₂ = mostRows} h (data-small _ (z .pre .0 .shape))))
 
@@ -107,7 +137,10 @@ take-share-requires c κs =
     let qe = c .before .before .before .before .run-length .ensures in
     let l = c .before .before .before .loop in
     let t = c .before .before .loop-test .taken in
-    cut-within (z .args .s) (z .args .f) (z .pre .0) (z .args .first) (now (z .args .d)) (now (z .args .rows)) (now (z .args .parity)) (z .pre .1 .1 .0) _ _ ce qe (l .i) t _ _ _ _ (c .before .share-of .ensures) (part-length (l .parity) _ _ (cut-in (z .args .s) (z .args .f) (z .pre .0) (z .args .first) (now (z .args .d)) (now (z .args .rows)) (now (z .args .parity)) (z .pre .1 .1 .0) _ _ ce qe (l .i) t (length (l .parity)) (l .inv .1 .long))) (z .pre .1 .0) (z .pre .1 .1 .0 .long)
+    cut-within (z .args .s) (z .args .f) (z .pre .0) (z .args .first) (now (z .args .d)) (now (z .args .rows)) (now (z .args .parity)) (z .pre .1 .1 .0) _ _ ce
+    qe (l .i) t _ _ _ _ (c .before .share-of .ensures) (part-length (l .parity) _ _ (cut-in (z .args .s) (z .args .f) (z .pre .0) (z .args .first)
+    (now (z .args .d)) (now (z .args .rows)) (now (z .args .parity)) (z .pre .1 .1 .0) _ _ ce qe (l .i) t (length (l .parity)) (l .inv .1 .long)))
+    (z .pre .1 .0) (z .pre .1 .1 .0 .long)
 
 add-i : tie.Need-add-i Inv-loop μ-loop
 add-i c =
@@ -126,8 +159,11 @@ loop-again c =
     let ce = c .before .before .before .before .before .before .before .before .runs .ensures in
     let qe = c .before .before .before .before .before .before .before .run-length .ensures in
     let l = c .before .before .before .before .before .before .loop in
-    let t = c .before .before .before .before .before .loop-test .taken in
-    (omega (arith, t), cut-turn (z .args .s) (z .args .f) (z .pre .0) (z .args .first) (now (z .args .d)) (now (z .args .rows)) (now (z .args .parity)) (z .pre .1 .1 .0) _ _ ce qe (l .i) t (l .parity) _ _ (c .before .before .before .before .share-of .ensures) (l .inv .1) (c .before .before .take-share .ensures))
+    let t = c .before .before .before .before .before .loop-test .taken in (
+      omega (arith, t),
+      cut-turn (z .args .s) (z .args .f) (z .pre .0) (z .args .first) (now (z .args .d)) (now (z .args .rows)) (now (z .args .parity)) (z .pre .1 .1 .0) _ _ ce
+          qe (l .i) t (l .parity) _ _ (c .before .before .before .before .share-of .ensures) (l .inv .1) (c .before .before .take-share .ensures),
+    )
 
 same-length : tie.Need-same-length Inv-loop μ-loop
 same-length c = let z = c .before .before .before .before .before .before .before in omega (arith, c .before .loop .inv .1 .long, z .pre .1 .1 .1)
@@ -136,7 +172,8 @@ returns : tie.Need-returns Inv-loop μ-loop
 returns c =
     let z = c .before .before .before .before .before .before .before in
     let ce = c .before .before .before .runs .ensures in
-    take-done (z .args .s) (z .args .f) (z .pre .0) (z .args .first) (now (z .args .d)) (now (z .args .rows)) (now (z .args .parity)) (z .pre .1 .1 .0) _ _ (subst (λ (x : ℕ). z .args .f * x ≤ c .before .loop .i) ce (c .loop-test .left)) (c .before .loop .inv .1)
+    take-done (z .args .s) (z .args .f) (z .pre .0) (z .args .first) (now (z .args .d)) (now (z .args .rows)) (now (z .args .parity)) (z .pre .1 .1 .0) _ _
+    (subst (λ (x : ℕ). z .args .f * x ≤ c .before .loop .i) ce (c .loop-test .left)) (c .before .loop .inv .1)
 
 pub take-runs-spec : {M : Type 1} → statement M
 take-runs-spec =

@@ -14,7 +14,8 @@ part-bytes-requires c κs = search needs
 
 mul-size : tie.Need-mul-size
 mul-size c =
-    let z = c .before .before .before in fits _ (subst (λ (x : ℕ). z .args .f * x < 2 ^ 64) (sym (c .part-bytes .ensures)) (omega (arith, rows-fit _ _ (z .pre .0))))
+    let z = c .before .before .before in
+    fits _ (subst (λ (x : ℕ). z .args .f * x < 2 ^ 64) (sym (c .part-bytes .ensures)) (omega (arith, rows-fit _ _ (z .pre .0))))
 
 array-borrow-prefix-rows : tie.Need-array-borrow-prefix-rows
 array-borrow-prefix-rows c = search needs
@@ -73,8 +74,19 @@ slice-aggregate-take-all-3 c =
 take-all-requires-3 : tie.Need-take-all-requires-3
 take-all-requires-3 c κs =
     let z = c .before .before .before .before .before .before .before in
-    let e = c .before .before .before .before .part-bytes .ensures in
-    (z .pre .0, (z .pre .1 .0, (z .pre .1 .1 .0, (length-take-le _ _ (subst (λ (x : ℕ). z .args .f * x ≤ 8192) (sym e) (rows-fit _ _ (z .pre .0))) ∙ ap (λ (x : ℕ). z .args .f * x) e, z .pre .1 .1 .1))))
+    let e = c .before .before .before .before .part-bytes .ensures in (
+      z .pre .0,
+      (
+        z .pre .1 .0,
+        (
+          z .pre .1 .1 .0,
+          (
+            length-take-le _ _ (subst (λ (x : ℕ). z .args .f * x ≤ 8192) (sym e) (rows-fit _ _ (z .pre .0))) ∙ ap (λ (x : ℕ). z .args .f * x) e,
+            z .pre .1 .1 .1,
+          ),
+        ),
+      ),
+    )
 
 same-length-3 : tie.Need-same-length-3
 same-length-3 c = search needs

@@ -13,7 +13,8 @@ use Rattle.fold.proofs.stripes.take_all.Statement.{statement}
 use Rattle.fold.proofs.stripes.take_all.Tie as tie
 
 abbrev Inv-loop : tie.InvT-loop
-Inv-loop s n f d rows₀ parity₀ each last l₀ rows parity l = (l ≤ n) × ((length rows ≡ f * partBytes s) × ((length parity ≡ f * s .l) × (l < n → parity ≡ from s f each n d l)))
+Inv-loop s n f d rows₀ parity₀ each last l₀ rows parity l =
+    (l ≤ n) × ((length rows ≡ f * partBytes s) × ((length parity ≡ f * s .l) × (l < n → parity ≡ from s f each n d l)))
 
 abbrev μ-loop : tie.MeasureT-loop
 μ-loop s n f d rows₀ parity₀ each last l₀ rows parity l = l
@@ -69,28 +70,35 @@ take-stripe-requires c κs =
     let l = c .before .before .before .before .loop in
     let t = c .before .before .before .loop-test .taken in
     let h : l .l - 1 < z .args .n = let p = l .inv .0 in omega arith in
-    let w = each-fits (z .args .s) (z .args .n) (z .args .f) (now (z .args .d)) (z .pre .1 .0) (z .pre .1 .1 .0) (l .l - 1) h in
-    (z .pre .0, (each-part (z .args .s) (z .args .n) (z .args .f) (now (z .args .d)) (z .pre .1 .0) (z .pre .1 .1 .0) (l .l - 1) h, (l .inv .1 .0, l .inv .1 .1 .0)))
+    let w = each-fits (z .args .s) (z .args .n) (z .args .f) (now (z .args .d)) (z .pre .1 .0) (z .pre .1 .1 .0) (l .l - 1) h in (
+      z .pre .0,
+      (each-part (z .args .s) (z .args .n) (z .args .f) (now (z .args .d)) (z .pre .1 .0) (z .pre .1 .1 .0) (l .l - 1) h, (l .inv .1 .0, l .inv .1 .1 .0)),
+    )
 
 loop-less : tie.Need-loop-less Inv-loop μ-loop
 loop-less c = let t = c .before .before .before .before .before .before .before .before .loop-test .taken in omega (arith, t)
 
 loop-again : tie.Need-loop-again Inv-loop μ-loop
 loop-again c =
+    let shared-slice-known = c .before .before .before .before .before .before .before .before .before .before .before .before .shared-slice-known in
     let z = c .before .before .before .before .before .before .before .before .before .before .before .before .before in
     let l = c .before .before .before .before .before .before .before .before .before .loop in
     let t = c .before .before .before .before .before .before .before .before .loop-test .taken in
-    let h : l .l - 1 < z .args .n = let p = l .inv .0 in omega arith in
+    let h : l .l - 1 < z .args .n = let p = l .inv .0 in
+    omega arith in
     let w = each-fits (z .args .s) (z .args .n) (z .args .f) (now (z .args .d)) (z .pre .1 .0) (z .pre .1 .1 .0) (l .l - 1) h in
     let k = c .before .before .before .before .take-stripe in
     let e : l .l ≡ l .l - 1 + 1 = omega arith in
-    let before = subst (λ (x : ℕ). x < z .args .n → l .parity ≡ from (z .args .s) (z .args .f) (length (now (z .args .d)) / z .args .n) (z .args .n) (now (z .args .d)) x) e (l .inv .1 .1 .1) in (
+    let before = subst
+    (λ (x : ℕ). x < z .args .n → l .parity ≡ from (z .args .s) (z .args .f) (length (now (z .args .d)) / z .args .n) (z .args .n) (now (z .args .d)) x) e
+    (l .inv .1 .1 .1) in (
       omega arith,
       (
         k .kept .1 .1 .1 .1 .0 ∙ l .inv .1 .0,
         (
           k .kept .1 .1 .1 .1 .1 .0 ∙ l .inv .1 .1 .0,
-          λ _. sum-turn (z .args .s) (z .args .f) _ (z .args .n) (now (z .args .d)) (λ i. c .before .before .before .before .before .before .before .before .before .before .before .before .shared-slice-known .given i .fits) (l .l - 1) _ _ h before (k .ensures),
+          λ _. sum-turn (z .args .s) (z .args .f) _ (z .args .n) (now (z .args .d)) (λ i. shared-slice-known .given i .fits) (l .l - 1) _ _ h before
+              (k .ensures),
         ),
       ),
     )
@@ -105,7 +113,9 @@ returns : tie.Need-returns Inv-loop μ-loop
 returns c =
     let z = c .before .before .before .before .before in
     let some : c .before .loop .l < z .args .n = let g = foldable _ _ _ (z .pre .1 .0) .stripes-some in let t = c .loop-test .left in omega arith in
-    all-taken (z .args .s) (z .args .n) (z .args .f) (now (z .args .d)) (z .pre .1 .0) (z .pre .1 .1 .0) _ (sum-done (z .args .s) (z .args .f) _ (z .args .n) (now (z .args .d)) (λ i. c .before .before .before .before .shared-slice-known .given i .fits) _ _ (c .loop-test .left) (c .before .loop .inv .1 .1 .1 some))
+    all-taken (z .args .s) (z .args .n) (z .args .f) (now (z .args .d)) (z .pre .1 .0) (z .pre .1 .1 .0) _ (sum-done (z .args .s) (z .args .f) _ (z .args .n)
+    (now (z .args .d)) (λ i. c .before .before .before .before .shared-slice-known .given i .fits) _ _ (c .loop-test .left)
+    (c .before .loop .inv .1 .1 .1 some))
 
 pub take-all-spec : {M : Type 1} → statement M
 take-all-spec =

@@ -38,12 +38,14 @@ loop-less c = search needs
 
 loop-again : tie.Need-loop-again Inv-loop μ-loop
 loop-again c =
+    let mix = c .before .before .mix in
     let a = c .before .before .before .before .before .before .before .before .before .args in
     let t = c .before .before .before .before .before .before .loop in
     let w = c .before .before .before .before .before .before .before .before .before .pre in (
       omega (arith, t .inv .0),
-      gathering-turn (a .weights .now) (a .to) (a .from) (a .d) (a .n) (a .slots .now) (t .slots) (c .before .before .mix .last .0) (t .v) (t .v - 1) _
-          (omega arith) (omega arith) w (t .inv .1) (within-made (disjoint-as _ _ _ _ _ (sym (t .inv .1 .long)) (sources-disjoint w (t .v - 1) (omega arith))) (c .before .before .mix .ensures)),
+      gathering-turn (a .weights .now) (a .to) (a .from) (a .d) (a .n) (a .slots .now) (t .slots) (mix .last .0) (t .v) (t .v - 1) _
+          (omega arith) (omega arith) w (t .inv .1)
+          (within-made (disjoint-as _ _ _ _ _ (sym (t .inv .1 .long)) (sources-disjoint w (t .v - 1) (omega arith))) (mix .ensures)),
     )
 
 same-length : tie.Need-same-length Inv-loop μ-loop

@@ -16,36 +16,55 @@ use Rattle.mending.proofs.run.add_row.Statement.{statement}
 use Rattle.mending.proofs.run.add_row.Tie as tie
 
 row-weights-requires : tie.Need-row-weights-requires
-row-weights-requires c κs = let w = c .before .pre in weights-asked (c .before .args .s) (c .before .args .p) _ _ (allowed (c .before .args .s) (w .0 .shape)) (w .0 .posed) (w .1 .0) (w .1 .1 .0)
+row-weights-requires c κs =
+    let w = c .before .pre in
+    weights-asked (c .before .args .s) (c .before .args .p) _ _ (allowed (c .before .args .s) (w .0 .shape)) (w .0 .posed) (w .1 .0) (w .1 .1 .0)
 
 array-share-prefix-w : tie.Need-array-share-prefix-w
 array-share-prefix-w c = let w = c .before .before .pre .0 .posed in omega (arith, c .row-weights .ensures .0, w .many, w .few)
 
 slice-aggregate-gather : tie.Need-slice-aggregate-gather
-slice-aggregate-gather c = let w = c .before .before .before .pre .0 .posed in sym (length-take-le (c .before .before .before .args .p .count) (c .before .row-weights .result) (omega (arith, c .before .row-weights .ensures .0, w .many, w .few)))
+slice-aggregate-gather c =
+    let row-weights = c .before .row-weights in
+    let w = c .before .before .before .pre .0 .posed in
+    sym (length-take-le (c .before .before .before .args .p .count) (row-weights .result) (omega (arith, row-weights .ensures .0, w .many, w .few)))
 
 mul-gather : tie.Need-mul-gather
-mul-gather c = let w = c .before .before .before .before .before .pre in omega (arith, first-length (c .before .before .before .before .before .args .s) (c .before .before .before .before .before .args .p) (allowed (c .before .before .before .before .before .args .s) (w .0 .shape)) (w .0 .posed))
+mul-gather c =
+    let start = c .before .before .before .before .before in
+    let w = start .pre in
+    omega (arith, first-length (start .args .s) (start .args .p) (allowed (start .args .s) (w .0 .shape)) (w .0 .posed))
 
 add-gather : tie.Need-add-gather
-add-gather c = let w = c .before .before .before .before .before .pre in omega (arith, first-length (c .before .before .before .before .before .args .s) (c .before .before .before .before .before .args .p) (allowed (c .before .before .before .before .before .args .s) (w .0 .shape)) (w .0 .posed), w .1 .1 .1 .0)
+add-gather c =
+    let start = c .before .before .before .before .before in
+    let w = start .pre in
+    omega (arith, first-length (start .args .s) (start .args .p) (allowed (start .args .s) (w .0 .shape)) (w .0 .posed), w .1 .1 .1 .0)
 
 mul-gather-2 : tie.Need-mul-gather-2
-mul-gather-2 c = let w = c .before .before .before .before .before .before .pre in omega (arith, step-length (c .before .before .before .before .before .before .args .s) (c .before .before .before .before .before .before .args .p) (allowed (c .before .before .before .before .before .before .args .s) (w .0 .shape)) (w .0 .posed))
+mul-gather-2 c =
+    let start = c .before .before .before .before .before .before in
+    let w = start .pre in
+    omega (arith, step-length (start .args .s) (start .args .p) (allowed (start .args .s) (w .0 .shape)) (w .0 .posed))
 
 gather-requires : tie.Need-gather-requires
 gather-requires c κs =
+    let row-weights = c .before .before .before .before .row-weights in
     let w = c .before .before .before .before .before .before .pre in
-    sources-as _ _ _ _ _ _ _ (sym (length-take-le (c .before .before .before .before .before .before .args .p .count) (c .before .before .before .before .row-weights .result) (omega (arith, c .before .before .before .before .row-weights .ensures .0, w .0 .posed .many, w .0 .posed .few)))) (w .1 .1 .1 .1)
+    sources-as _ _ _ _ _ _ _ (sym (length-take-le (c .before .before .before .before .before .before .args .p .count) (row-weights .result)
+    (omega (arith, row-weights .ensures .0, w .0 .posed .many, w .0 .posed .few)))) (w .1 .1 .1 .1)
 
 same-length : tie.Need-same-length
 same-length c = search needs
 
 returns : tie.Need-returns
 returns c =
-    let a = c .before .before .before .before .before .before .before .before .before .args in
-    subst (λ (l : List ℕ). Gathered l (a .to) (a .p .first * a .s .l + a .off) (a .p .step * a .s .l) (a .n) (a .slots .now) (c .before .before .gather .last .1 .0))
-    (c .before .before .before .before .before .before .before .row-weights .ensures .1 ∙ ap (λ (l : List ℕ). points (a .j) (less (a .x) l)) (c .before .before .before .before .before .before .before .before .before .pre .0 .posed .front)) (c .before .before .gather .ensures)
+    let start = c .before .before .before .before .before .before .before .before .before in
+    let row-weights = c .before .before .before .before .before .before .before .row-weights in
+    let gather = c .before .before .gather in
+    let a = start .args in
+    subst (λ (l : List ℕ). Gathered l (a .to) (a .p .first * a .s .l + a .off) (a .p .step * a .s .l) (a .n) (a .slots .now) (gather .last .1 .0))
+    (row-weights .ensures .1 ∙ ap (λ (l : List ℕ). points (a .j) (less (a .x) l)) (start .pre .0 .posed .front)) (gather .ensures)
 
 pub add-row-spec : {M : Type 1} → statement M
 add-row-spec =

@@ -27,10 +27,18 @@ abbrev μ-loop : tie.MeasureT-loop
 μ-loop s p slots₀ count points weights n m l at d b₀ slots b = runs s - b
 
 row-weights-requires : tie.Need-row-weights-requires Inv-loop μ-loop
-row-weights-requires c κs = let f = allowed (c .before .args .s) (c .before .pre .shape) in weights-asked (c .before .args .s) (c .before .args .p) _ _ f (c .before .pre .posed) (omega arith) (omega (arith, step-few (c .before .args .s) f (c .before .args .p) (c .before .pre .posed), first-few (c .before .args .s) f (c .before .args .p) (c .before .pre .posed)))
+row-weights-requires c κs =
+    let start = c .before in
+    let f = allowed (start .args .s) (start .pre .shape) in
+    weights-asked (start .args .s) (start .args .p) _ _ f (start .pre .posed) (omega arith)
+    (omega (arith, step-few (start .args .s) f (start .args .p) (start .pre .posed), first-few (start .args .s) f (start .args .p) (start .pre .posed)))
 
 row-weights-requires-2 : tie.Need-row-weights-requires-2 Inv-loop μ-loop
-row-weights-requires-2 c κs = let f = allowed (c .before .before .args .s) (c .before .before .pre .shape) in weights-asked (c .before .before .args .s) (c .before .before .args .p) _ _ f (c .before .before .pre .posed) (omega arith) (omega (arith, first-few (c .before .before .args .s) f (c .before .before .args .p) (c .before .before .pre .posed)))
+row-weights-requires-2 c κs =
+    let start = c .before .before in
+    let f = allowed (start .args .s) (start .pre .shape) in
+    weights-asked (start .args .s) (start .args .p) _ _ f (start .pre .posed) (omega arith)
+    (omega (arith, first-few (start .args .s) f (start .args .p) (start .pre .posed)))
 
 runs-requires : tie.Need-runs-requires Inv-loop μ-loop
 runs-requires c κs = search needs
@@ -39,76 +47,151 @@ run-length-requires : tie.Need-run-length-requires Inv-loop μ-loop
 run-length-requires c κs = search needs
 
 mul-at : tie.Need-mul-at Inv-loop μ-loop
-mul-at c = omega (arith, first-length (c .before .before .before .before .before .before .args .s) (c .before .before .before .before .before .before .args .p) (allowed (c .before .before .before .before .before .before .args .s) (c .before .before .before .before .before .before .pre .shape)) (c .before .before .before .before .before .before .pre .posed), step-length (c .before .before .before .before .before .before .args .s) (c .before .before .before .before .before .before .args .p) (allowed (c .before .before .before .before .before .before .args .s) (c .before .before .before .before .before .before .pre .shape)) (c .before .before .before .before .before .before .pre .posed))
+mul-at c =
+    let start = c .before .before .before .before .before .before in
+    omega (
+      arith,
+      first-length (start .args .s) (start .args .p) (allowed (start .args .s) (start .pre .shape)) (start .pre .posed),
+      step-length (start .args .s) (start .args .p) (allowed (start .args .s) (start .pre .shape)) (start .pre .posed),
+    )
 
 mul-d : tie.Need-mul-d Inv-loop μ-loop
-mul-d c = omega (arith, step-length (c .before .before .before .before .before .before .before .args .s) (c .before .before .before .before .before .before .before .args .p) (allowed (c .before .before .before .before .before .before .before .args .s) (c .before .before .before .before .before .before .before .pre .shape)) (c .before .before .before .before .before .before .before .pre .posed))
+mul-d c =
+    let start = c .before .before .before .before .before .before .before in
+    omega (arith, step-length (start .args .s) (start .args .p) (allowed (start .args .s) (start .pre .shape)) (start .pre .posed))
 
 loop-holds : tie.Need-loop-holds Inv-loop μ-loop
-loop-holds c = (omega arith, (refl, (λ i. c .before .before .before .before .before .before .slice-known .given i .fits, λ xs b t. runs-start (c .before .before .before .before .before .before .before .args .s) (c .before .before .before .before .before .before .before .args .p) xs _ t)))
+loop-holds c =
+    let start = c .before .before .before .before .before .before .before in
+    let slice-known = c .before .before .before .before .before .before .slice-known in
+    (omega arith, (refl, (λ i. slice-known .given i .fits, λ xs b t. runs-start (start .args .s) (start .args .p) xs _ t)))
 
 carry-requires : tie.Need-carry-requires Inv-loop μ-loop
 carry-requires c κs =
-    let w = c .before .before .before .before .before .before .before .before .before .before .pre in
-    (record { shape = w .shape; posed = w .posed; long = c .before .before .loop .inv .1 .0 ∙ w .long }, (c .before .before .before .before .before .run-length .ensures, omega (arith, c .before .loop-test .taken, c .before .before .before .before .before .before .runs .ensures)))
+    let w = c .before .before .before .before .before .before .before .before .before .before .pre in (
+      record { shape = w .shape; posed = w .posed; long = c .before .before .loop .inv .1 .0 ∙ w .long },
+      (
+        c .before .before .before .before .before .run-length .ensures,
+        omega (arith, c .before .loop-test .taken, c .before .before .before .before .before .before .runs .ensures),
+      ),
+    )
 
 array-share-prefix-points : tie.Need-array-share-prefix-points Inv-loop μ-loop
-array-share-prefix-points c = let w = c .before .before .before .before .before .before .before .before .before .before .before .before .before .pre .posed in omega (arith, c .before .before .before .before .before .before .before .before .before .before .before .row-weights .ensures .0, w .many, w .few)
+array-share-prefix-points c =
+    let row-weights = c .before .before .before .before .before .before .before .before .before .before .before .row-weights in
+    let w = c .before .before .before .before .before .before .before .before .before .before .before .before .before .pre .posed in
+    omega (arith, row-weights .ensures .0, w .many, w .few)
 
 slice-aggregate-solve-slots : tie.Need-slice-aggregate-solve-slots Inv-loop μ-loop
-slice-aggregate-solve-slots c = let w = c .before .before .before .before .before .before .before .before .before .before .before .before .before .before .pre .posed in sym (length-take-le (c .before .before .before .before .before .before .before .before .before .before .before .before .before .before .args .p .count) (c .before .before .before .before .before .before .before .before .before .before .before .before .row-weights .result) (omega (arith, c .before .before .before .before .before .before .before .before .before .before .before .before .row-weights .ensures .0, w .many, w .few)))
+slice-aggregate-solve-slots c =
+    let start = c .before .before .before .before .before .before .before .before .before .before .before .before .before .before in
+    let row-weights = c .before .before .before .before .before .before .before .before .before .before .before .before .row-weights in
+    let w = start .pre .posed in
+    sym (length-take-le (start .args .p .count) (row-weights .result) (omega (arith, row-weights .ensures .0, w .many, w .few)))
 
 array-share-prefix-weights : tie.Need-array-share-prefix-weights Inv-loop μ-loop
-array-share-prefix-weights c = let w = c .before .before .before .before .before .before .before .before .before .before .before .before .before .before .pre .posed in omega (arith, c .before .before .before .before .before .before .before .before .before .before .before .row-weights2 .ensures .0, w .many, w .few)
+array-share-prefix-weights c =
+    let row-weights2 = c .before .before .before .before .before .before .before .before .before .before .before .row-weights2 in
+    let w = c .before .before .before .before .before .before .before .before .before .before .before .before .before .before .pre .posed in
+    omega (arith, row-weights2 .ensures .0, w .many, w .few)
 
 slice-aggregate-solve-slots-2 : tie.Need-slice-aggregate-solve-slots-2 Inv-loop μ-loop
-slice-aggregate-solve-slots-2 c = let w = c .before .before .before .before .before .before .before .before .before .before .before .before .before .before .before .pre .posed in sym (length-take-le (c .before .before .before .before .before .before .before .before .before .before .before .before .before .before .before .args .p .count) (c .before .before .before .before .before .before .before .before .before .before .before .before .row-weights2 .result) (omega (arith, c .before .before .before .before .before .before .before .before .before .before .before .before .row-weights2 .ensures .0, w .many, w .few)))
+slice-aggregate-solve-slots-2 c =
+    let start = c .before .before .before .before .before .before .before .before .before .before .before .before .before .before .before in
+    let row-weights2 = c .before .before .before .before .before .before .before .before .before .before .before .before .row-weights2 in
+    let w = start .pre .posed in
+    sym (length-take-le (start .args .p .count) (row-weights2 .result) (omega (arith, row-weights2 .ensures .0, w .many, w .few)))
 
 mul-solve-slots : tie.Need-mul-solve-slots Inv-loop μ-loop
-mul-solve-slots c = let w = c .before .before .before .before .before .before .before .before .before .before .before .before .before .before .before .before .pre in let f = allowed (c .before .before .before .before .before .before .before .before .before .before .before .before .before .before .before .before .args .s) (w .shape) in let z = sizes (c .before .before .before .before .before .before .before .before .before .before .before .before .before .before .before .before .args .s) (c .before .before .before .before .before .before .before .before .before .before .before .before .before .before .before .before .args .p) (c .before .before .before .before .before .before .before .before .loop .b) 0 (c .before .before .before .before .before .before .before .before .before .before .before .run-length .result) f (w .posed) (c .before .before .before .before .before .before .before .before .before .before .before .run-length .ensures) (omega (arith, c .before .before .before .before .before .before .before .loop-test .taken, c .before .before .before .before .before .before .before .before .before .before .before .before .runs .ensures)) (f .parity-some) in omega (arith, z .run)
+mul-solve-slots c =
+    let start = c .before .before .before .before .before .before .before .before .before .before .before .before .before .before .before .before in
+    let runs′ = c .before .before .before .before .before .before .before .before .before .before .before .before .runs in
+    let run-length = c .before .before .before .before .before .before .before .before .before .before .before .run-length in
+    let loop = c .before .before .before .before .before .before .before .before .loop in
+    let loop-test = c .before .before .before .before .before .before .before .loop-test in
+    let w = start .pre in
+    let f = allowed (start .args .s) (w .shape) in
+    let z = sizes (start .args .s) (start .args .p) (loop .b) 0 (run-length .result) f (w .posed) (run-length .ensures)
+    (omega (arith, loop-test .taken, runs′ .ensures)) (f .parity-some) in
+    omega (arith, z .run)
 
 add-solve-slots : tie.Need-add-solve-slots Inv-loop μ-loop
-add-solve-slots c = let w = c .before .before .before .before .before .before .before .before .before .before .before .before .before .before .before .before .pre in let f = allowed (c .before .before .before .before .before .before .before .before .before .before .before .before .before .before .before .before .args .s) (w .shape) in let z = sizes (c .before .before .before .before .before .before .before .before .before .before .before .before .before .before .before .before .args .s) (c .before .before .before .before .before .before .before .before .before .before .before .before .before .before .before .before .args .p) (c .before .before .before .before .before .before .before .before .loop .b) 0 (c .before .before .before .before .before .before .before .before .before .before .before .run-length .result) f (w .posed) (c .before .before .before .before .before .before .before .before .before .before .before .run-length .ensures) (omega (arith, c .before .before .before .before .before .before .before .loop-test .taken, c .before .before .before .before .before .before .before .before .before .before .before .before .runs .ensures)) (f .parity-some) in omega (arith, z .first, z .run)
+add-solve-slots c =
+    let start = c .before .before .before .before .before .before .before .before .before .before .before .before .before .before .before .before in
+    let runs′ = c .before .before .before .before .before .before .before .before .before .before .before .before .runs in
+    let run-length = c .before .before .before .before .before .before .before .before .before .before .before .run-length in
+    let loop = c .before .before .before .before .before .before .before .before .loop in
+    let loop-test = c .before .before .before .before .before .before .before .loop-test in
+    let w = start .pre in
+    let f = allowed (start .args .s) (w .shape) in
+    let z = sizes (start .args .s) (start .args .p) (loop .b) 0 (run-length .result) f (w .posed) (run-length .ensures)
+    (omega (arith, loop-test .taken, runs′ .ensures)) (f .parity-some) in
+    omega (arith, z .first, z .run)
 
 solve-slots-requires : tie.Need-solve-slots-requires Inv-loop μ-loop
 solve-slots-requires c κs =
-    let a = c .before .before .before .before .before .before .before .before .before .before .before .before .before .before .before .before .args in
-    let w = c .before .before .before .before .before .before .before .before .before .before .before .before .before .before .before .before .pre in
+    let loop = c .before .before .before .before .before .before .before .before .loop in
+    let run-length = c .before .before .before .before .before .before .before .before .before .before .before .run-length in
+    let runs′ = c .before .before .before .before .before .before .before .before .before .before .before .before .runs in
+    let weights = c .before .before .before .before .before .before .before .before .before .before .before .before .before .row-weights2 in
+    let points = c .before .before .before .before .before .before .before .before .before .before .before .before .before .before .row-weights in
+    let start = c .before .before .before .before .before .before .before .before .before .before .before .before .before .before .before .before in
+    let a = start .args in
+    let w = start .pre in
     let f = allowed (a .s) (w .shape) in
     let k = c .before .before .before .before .before .carry .ensures in
     let is = ap (less (a .p .pivot)) (w .posed .front) in
-    let bs = powers-length (a .s) f (a .p) (w .posed) (a .p .step) _ (c .before .before .before .before .before .before .before .before .before .before .before .before .before .before .row-weights .ensures .1 ∙ ap (powers (a .p .step)) is) in
-    let ws = powers-length (a .s) f (a .p) (w .posed) (a .p .first) _ (c .before .before .before .before .before .before .before .before .before .before .before .before .before .row-weights2 .ensures .1 ∙ ap (powers (a .p .first)) is) in (
-      spaced-as _ _ _ _ _ _ _ (sym bs) (sym (k .long ∙ c .before .before .before .before .before .before .before .before .loop .inv .1 .0))
-          (run-spaced (a .s) (a .p) (c .before .before .before .before .before .before .before .before .loop .b) (c .before .before .before .before .before .before .before .before .before .before .before .run-length .result) _ f (w .posed) (c .before .before .before .before .before .before .before .before .before .before .before .run-length .ensures) (omega (arith, c .before .before .before .before .before .before .before .loop-test .taken, c .before .before .before .before .before .before .before .before .before .before .before .before .runs .ensures)) (w .long)),
-      ws ∙ sym bs,
-    )
+    let bs = powers-length (a .s) f (a .p) (w .posed) (a .p .step) _ (points .ensures .1 ∙ ap (powers (a .p .step)) is) in
+    let ws = powers-length (a .s) f (a .p) (w .posed) (a .p .first) _ (weights .ensures .1 ∙ ap (powers (a .p .first)) is) in
+    let below = omega (arith, c .before .before .before .before .before .before .before .loop-test .taken, runs′ .ensures) in
+    let rows = run-spaced (a .s) (a .p) (loop .b) (run-length .result) _ f (w .posed) (run-length .ensures) below (w .long) in
+    (spaced-as _ _ _ _ _ _ _ (sym bs) (sym (k .long ∙ loop .inv .1 .0)) rows, ws ∙ sym bs)
 
 add-b : tie.Need-add-b Inv-loop μ-loop
-add-b c = let f = allowed (c .before .before .before .before .before .before .before .before .before .before .before .before .before .before .before .before .before .before .before .args .s) (c .before .before .before .before .before .before .before .before .before .before .before .before .before .before .before .before .before .before .before .pre .shape) in omega (arith, c .before .before .before .before .before .before .before .before .before .before .before .loop .inv .0, f .runs-most)
+add-b c =
+    let earlier = c .before .before .before .before .before .before .before .before .before .before .before in
+    let start = earlier .before .before .before .before .before .before .before .before in
+    let loop = c .before .before .before .before .before .before .before .before .before .before .before .loop in
+    let f = allowed (start .args .s) (start .pre .shape) in
+    omega (arith, loop .inv .0, f .runs-most)
 
 loop-less : tie.Need-loop-less Inv-loop μ-loop
-loop-less c = omega (arith, c .before .before .before .before .before .before .before .before .before .before .loop-test .taken, c .before .before .before .before .before .before .before .before .before .before .before .before .before .before .before .runs .ensures)
+loop-less c =
+    let runs′ = c .before .before .before .before .before .before .before .before .before .before .before .before .before .before .before .runs in
+    let loop-test = c .before .before .before .before .before .before .before .before .before .before .loop-test in
+    omega (arith, loop-test .taken, runs′ .ensures)
 
 loop-again : tie.Need-loop-again Inv-loop μ-loop
 loop-again c =
-    let a = c .before .before .before .before .before .before .before .before .before .before .before .before .before .before .before .before .before .before .before .args in
-    let w = c .before .before .before .before .before .before .before .before .before .before .before .before .before .before .before .before .before .before .before .pre in
-    let t = c .before .before .before .before .before .before .before .before .before .before .before .loop in
+    let earlier = c .before .before .before .before .before .before .before .before .before in
+    let row-weights = earlier .before .before .before .before .before .before .before .before .row-weights in
+    let row-weights2 = earlier .before .before .before .before .before .before .before .row-weights2 in
+    let runs′ = earlier .before .before .before .before .before .before .runs in
+    let run-length = earlier .before .before .before .before .before .run-length in
+    let loop-test = earlier .before .loop-test in
+    let carry = c .before .before .before .before .before .before .before .before .carry in
+    let slice-known2 = c .before .before .before .before .before .before .slice-known2 in
+    let a = earlier .before .before .before .before .before .before .before .before .before .before .args in
+    let w = earlier .before .before .before .before .before .before .before .before .before .before .pre in
+    let t = earlier .before .before .loop in
     let is = ap (less (a .p .pivot)) (w .posed .front) in
-    let k = run-solved (a .s) (allowed (a .s) (w .shape)) (a .p) (w .posed) (t .b) (c .before .before .before .before .before .before .before .before .before .before .before .before .before .before .run-length .result) _ _ (t .slots) (c .before .before .before .before .before .before .before .before .carry .last .1 .1 .1 .1 .0) _
-    (c .before .before .before .before .before .before .before .before .before .before .before .before .before .before .run-length .ensures) (omega (arith, c .before .before .before .before .before .before .before .before .before .before .loop-test .taken, c .before .before .before .before .before .before .before .before .before .before .before .before .before .before .before .runs .ensures)) (t .inv .1 .1 .0) (λ i. c .before .before .before .before .before .before .slice-known2 .given i .fits)
-    (c .before .before .before .before .before .before .before .before .before .before .before .before .before .before .before .before .before .row-weights .ensures .1 ∙ ap (powers (a .p .step)) is) (c .before .before .before .before .before .before .before .before .before .before .before .before .before .before .before .before .row-weights2 .ensures .1 ∙ ap (powers (a .p .first)) is) (c .before .before .before .before .before .before .before .before .carry .ensures) (c .before .before .solve-slots .ensures) in
-    (omega (arith, c .before .before .before .before .before .before .before .before .before .before .loop-test .taken, c .before .before .before .before .before .before .before .before .before .before .before .before .before .before .before .runs .ensures), (k .long ∙ t .inv .1 .0, (λ i. c .slice-known3 .given i .fits, λ xs b z. k .more xs b (t .inv .1 .1 .1 xs b z))))
+    let k = run-solved (a .s) (allowed (a .s) (w .shape)) (a .p) (w .posed) (t .b) (run-length .result) _ _ (t .slots) (carry .last .1 .1 .1 .1 .0) _
+    (run-length .ensures) (omega (arith, loop-test .taken, runs′ .ensures)) (t .inv .1 .1 .0) (λ i. slice-known2 .given i .fits)
+    (row-weights .ensures .1 ∙ ap (powers (a .p .step)) is) (row-weights2 .ensures .1 ∙ ap (powers (a .p .first)) is) (carry .ensures)
+    (c .before .before .solve-slots .ensures) in (
+      omega (arith, loop-test .taken, runs′ .ensures),
+      (k .long ∙ t .inv .1 .0, (λ i. c .slice-known3 .given i .fits, λ xs b z. k .more xs b (t .inv .1 .1 .1 xs b z))),
+    )
 
 same-length : tie.Need-same-length Inv-loop μ-loop
 same-length c = c .before .loop .inv .1 .0
 
 returns : tie.Need-returns Inv-loop μ-loop
 returns c =
+    let start = c .before .before .before .before .before .before .before .before .before in
     let t = c .before .loop in
-    let e : t .b ≡ runs (c .before .before .before .before .before .before .before .before .before .args .s) = omega (arith, t .inv .0, c .loop-test .left, c .before .before .before .before .before .runs .ensures) in
-    record { long = t .inv .1 .0; all = λ xs b z. subst (λ (x : ℕ). SolvedBelow (c .before .before .before .before .before .before .before .before .before .args .s) (c .before .before .before .before .before .before .before .before .before .args .p) xs x (t .slots)) e (t .inv .1 .1 .1 xs b z) }
+    let e : t .b ≡ runs (start .args .s) = omega (arith, t .inv .0, c .loop-test .left, c .before .before .before .before .before .runs .ensures) in
+    record { long = t .inv .1 .0; all = λ xs b z. subst (λ (x : ℕ). SolvedBelow (start .args .s) (start .args .p) xs x (t .slots)) e (t .inv .1 .1 .1 xs b z) }
 
 pub solve-runs-spec : {M : Type 1} → statement M
 solve-runs-spec =

@@ -36,7 +36,8 @@ all-zero-requires c κs = search needs
 returns-2 : tie.Need-returns-2
 returns-2 c =
     let a = c .before .before .before .before .before .before .args in
-    clean-says (a .slots .now) (a .j) (a .s .l) _ _ (c .before .before .before .before .before .before .pre .1 .1 .1) (sym (c .before .before .before .is-lost .ensures) ∙ c .before .before .if1 .left) (c .all-zero .ensures)
+    clean-says (a .slots .now) (a .j) (a .s .l) _ _ (c .before .before .before .before .before .before .pre .1 .1 .1)
+    (sym (c .before .before .before .is-lost .ensures) ∙ c .before .before .if1 .left) (c .all-zero .ensures)
 
 pub clean-spec : {M : Type 1} → statement M
 clean-spec =

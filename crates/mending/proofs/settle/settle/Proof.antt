@@ -54,18 +54,21 @@ loop-less c = omega (arith, c .before .before .before .before .before .loop-test
 loop-again : tie.Need-loop-again Inv-loop μ-loop
 loop-again c =
     let k = c .before .before .before .settle-row .ensures in
-    let t = c .before .before .before .before .before .before .loop .inv in
-    (omega (arith, c .before .before .before .before .before .loop-test .taken), (k .long ∙ t .1 .0, λ xs b z. k .so xs b (t .1 .1 xs b z) (not-false _ (c .if1 .left))))
+    let t = c .before .before .before .before .before .before .loop .inv in (
+      omega (arith, c .before .before .before .before .before .loop-test .taken),
+      (k .long ∙ t .1 .0, λ xs b z. k .so xs b (t .1 .1 xs b z) (not-false _ (c .if1 .left))),
+    )
 
 same-length-2 : tie.Need-same-length-2 Inv-loop μ-loop
 same-length-2 c = c .before .loop .inv .1 .0
 
 returns-2 : tie.Need-returns-2 Inv-loop μ-loop
 returns-2 c =
+    let start = c .before .before .before in
     let t = c .before .loop .inv in
     record {
       long = t .1 .0;
-      so = λ xs b z e. settled-all (c .before .before .before .args .s) (c .before .before .before .args .p) xs _ _ (t .0) (c .loop-test .left) (t .1 .1 xs b z);
+      so = λ xs b z e. settled-all (start .args .s) (start .args .p) xs _ _ (t .0) (c .loop-test .left) (t .1 .1 xs b z);
       not-so = λ xs b z e. absurd (true≢false e);
     }
 

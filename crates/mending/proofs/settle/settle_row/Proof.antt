@@ -24,13 +24,17 @@ solves-requires c κs =
     (omega (arith, w .many, w .few), (omega (arith, first-few (a .s) f (a .p) w), omega (arith, step-few (a .s) f (a .p) w)))
 
 returns : tie.Need-returns
-returns c = skip-settles (c .before .before .before .args .s) (c .before .before .before .args .p) (c .before .before .before .args .j) _ (c .before .solves .ensures .so (c .if1 .taken))
+returns c =
+    let start = c .before .before .before in
+    skip-settles (start .args .s) (start .args .p) (start .args .j) _ (c .before .solves .ensures .so (c .if1 .taken))
 
 mul-add-row : tie.Need-mul-add-row
 mul-add-row c =
-    let w = c .before .before .before .before .pre in
-    let f = allowed (c .before .before .before .before .args .s) (w .0 .shape) in
-    let most : c .before .before .before .before .args .j * c .before .before .before .before .args .s .l ≤ mostParityLength = mul-le-mul {n₂ = mostParity} {m₂ = mostLength} (omega (arith, w .1, f .parity-most)) (f .length-most) in
+    let start = c .before .before .before .before in
+    let w = start .pre in
+    let f = allowed (start .args .s) (w .0 .shape) in
+    let most : start .args .j * start .args .s .l ≤ mostParityLength = mul-le-mul {n₂ = mostParity} {m₂ = mostLength} (omega (arith, w .1, f .parity-most))
+    (f .length-most) in
     omega arith
 
 add-row-requires : tie.Need-add-row-requires
@@ -40,25 +44,47 @@ add-row-requires c κs =
     let f = allowed (a .s) (w .0 .shape) in
     let o = c .before .before .solves .ensures .not-so (c .before .if1 .left) in (
       w .0,
-      (omega arith, (omega (arith, w .1, f .parity-most), (omega arith, subst (λ (z : ℕ). Sources (a .p .count) (a .j * a .s .l) z (a .p .step * a .s .l) (a .s .l) (length (a .slots .now))) (sym (add-zero _)) (finish-sources (a .s) f (a .p) (w .0 .posed) (a .j) (w .1) o _ (w .0 .long))))),
+      (
+        omega arith,
+        (
+          omega (arith, w .1, f .parity-most),
+          (
+            omega arith,
+            subst (λ (z : ℕ). Sources (a .p .count) (a .j * a .s .l) z (a .p .step * a .s .l) (a .s .l) (length (a .slots .now))) (sym (add-zero _))
+                (finish-sources (a .s) f (a .p) (w .0 .posed) (a .j) (w .1) o _ (w .0 .long)),
+          ),
+        ),
+      ),
     )
 
 clean-requires : tie.Need-clean-requires
 clean-requires c κs =
     let a = c .before .before .before .before .before .before .before .before .args in
     let w = c .before .before .before .before .before .before .before .before .pre in
-    let f = allowed (a .s) (w .0 .shape) in
-    (w .0 .posed .few, (f .data-most, (omega (arith, w .1, f .parity-most), omega (arith, slot-ends (a .s) f (a .p) (w .0 .posed) (a .j) (w .1), c .before .before .before .add-row .ensures .long, w .0 .long))))
+    let f = allowed (a .s) (w .0 .shape) in (
+      w .0 .posed .few,
+      (
+        f .data-most,
+        (
+          omega (arith, w .1, f .parity-most),
+          omega (arith, slot-ends (a .s) f (a .p) (w .0 .posed) (a .j) (w .1), c .before .before .before .add-row .ensures .long, w .0 .long),
+        ),
+      ),
+    )
 
 same-length : tie.Need-same-length
 same-length c = search needs
 
 returns-2 : tie.Need-returns-2
 returns-2 c =
+    let solves = c .before .before .before .before .before .before .before .solves in
+    let add-row = c .before .before .before .before .add-row in
     let a = c .before .before .before .before .before .before .before .before .before .args in
     let w = c .before .before .before .before .before .before .before .before .before .pre in
-    row-settles (a .s) (allowed (a .s) (w .0 .shape)) (a .p) (w .0 .posed) (a .j) (w .1) (c .before .before .before .before .before .before .before .solves .ensures .not-so (c .before .before .before .before .before .before .if1 .left)) (a .slots .now) (c .before .before .before .before .add-row .last .1 .1 .1 .1 .0)
-    (subst (λ (z : ℕ). Gathered (points (a .j) (less (a .p .pivot) (gone (a .s) (a .p)))) (a .j * a .s .l) z (a .p .step * a .s .l) (a .s .l) (a .slots .now) (c .before .before .before .before .add-row .last .1 .1 .1 .1 .0)) (add-zero _) (c .before .before .before .before .add-row .ensures))
+    row-settles (a .s) (allowed (a .s) (w .0 .shape)) (a .p) (w .0 .posed) (a .j) (w .1)
+    (solves .ensures .not-so (c .before .before .before .before .before .before .if1 .left)) (a .slots .now) (add-row .last .1 .1 .1 .1 .0)
+    (subst (λ (z : ℕ). Gathered (points (a .j) (less (a .p .pivot) (gone (a .s) (a .p)))) (a .j * a .s .l) z (a .p .step * a .s .l) (a .s .l) (a .slots .now)
+    (add-row .last .1 .1 .1 .1 .0)) (add-zero _) (add-row .ensures))
     (c .clean .result) (λ i. c .before .before .slice-known2 .given i .fits) (c .clean .ensures)
 
 pub settle-row-spec : {M : Type 1} → statement M

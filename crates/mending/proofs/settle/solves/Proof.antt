@@ -21,13 +21,27 @@ loop-holds : tie.Need-loop-holds Inv-loop μ-loop
 loop-holds c = (search needs, λ u l. absurd (omega arith))
 
 mul-if2 : tie.Need-mul-if2 Inv-loop μ-loop
-mul-if2 c = let most : c .before .before .before .before .args .p .step * c .before .before .before .loop .v ≤ mostRows * capacity = mul-le-mul {m₂ = capacity} (c .before .before .before .before .pre .1 .1) (omega (arith, c .before .before .before .loop .inv .0, c .before .before .before .before .pre .0)) in omega arith
+mul-if2 c =
+    let start = c .before .before .before .before in
+    let loop = c .before .before .before .loop in
+    let most : start .args .p .step * loop .v ≤ mostRows * capacity = mul-le-mul {m₂ = capacity} (start .pre .1 .1)
+    (omega (arith, loop .inv .0, start .pre .0)) in
+    omega arith
 
 add-if2 : tie.Need-add-if2 Inv-loop μ-loop
-add-if2 c = let most : c .before .before .before .before .before .args .p .step * c .before .before .before .before .loop .v ≤ mostRows * capacity = mul-le-mul {m₂ = capacity} (c .before .before .before .before .before .pre .1 .1) (omega (arith, c .before .before .before .before .loop .inv .0, c .before .before .before .before .before .pre .0)) in omega (arith, c .before .before .before .before .before .pre .1 .0)
+add-if2 c =
+    let start = c .before .before .before .before .before in
+    let loop = c .before .before .before .before .loop in
+    let most : start .args .p .step * loop .v ≤ mostRows * capacity = mul-le-mul {m₂ = capacity} (start .pre .1 .1)
+    (omega (arith, loop .inv .0, start .pre .0)) in
+    omega (arith, start .pre .1 .0)
 
 returns : tie.Need-returns Inv-loop μ-loop
-returns c = record { so = λ t. (c .before .before .before .before .before .loop .v, (c .before .before .before .if1 .taken, c .if2 .taken)); not-so = λ t. absurd (true≢false t) }
+returns c =
+    record {
+      so = λ t. (c .before .before .before .before .before .loop .v, (c .before .before .before .if1 .taken, c .if2 .taken));
+      not-so = λ t. absurd (true≢false t);
+    }
 
 add-v : tie.Need-add-v Inv-loop μ-loop
 add-v c = omega (arith, c .before .before .before .before .before .loop .inv .0, c .before .before .before .before .before .before .pre .0)
@@ -36,7 +50,10 @@ loop-less : tie.Need-loop-less Inv-loop μ-loop
 loop-less c = omega (arith, c .before .before .before .if1 .taken)
 
 loop-again : tie.Need-loop-again Inv-loop μ-loop
-loop-again c = (omega (arith, c .before .before .before .if1 .taken), solver-turn (c .before .before .before .before .before .before .args .p) (c .before .before .before .before .before .before .args .j) (c .before .before .before .before .before .loop .v) (c .before .before .before .before .before .loop .inv .1) (c .if2 .left))
+loop-again c =
+    let start = c .before .before .before .before .before .before in
+    let loop = c .before .before .before .before .before .loop in
+    (omega (arith, c .before .before .before .if1 .taken), solver-turn (start .args .p) (start .args .j) (loop .v) (loop .inv .1) (c .if2 .left))
 
 returns-2 : tie.Need-returns-2 Inv-loop μ-loop
 returns-2 c =

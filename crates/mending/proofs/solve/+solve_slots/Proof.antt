@@ -136,7 +136,9 @@ solve-slots-array-share-prefix-w : (t : ℕ) → solve-slots-lts.Need-array-shar
   first-value-reads.Asked,
   first-value-reads.Learnt,
 ) (solve-slots-at t) solve-slots.Post
-solve-slots-array-share-prefix-w t c = omega (arith, c .before .set-apart .ensures .long, c .before .before .before .before .before .before .before .before .before .before .before .pre .1 .0 .few)
+solve-slots-array-share-prefix-w t c =
+    let start = c .before .before .before .before .before .before .before .before .before .before .before in
+    omega (arith, c .before .set-apart .ensures .long, start .pre .1 .0 .few)
 
 solve-slots-slice-aggregate-solve-slots :
     (t : ℕ) → solve-slots-lts.Need-slice-aggregate-solve-slots (
@@ -150,8 +152,10 @@ solve-slots-slice-aggregate-solve-slots :
       first-value-reads.Learnt,
     ) (solve-slots-at t) solve-slots.Post
 solve-slots-slice-aggregate-solve-slots t c =
-    let bs = c .before .before .before .before .before .before .before .before .before .before .before .before .args .points .now in
-    sym (length-take-le (length bs - 1) (c .before .before .set-apart .result) (omega (arith, c .before .before .set-apart .ensures .long, c .before .before .before .before .before .before .before .before .before .before .before .before .pre .1 .0 .few)))
+    let start = c .before .before .before .before .before .before .before .before .before .before .before .before in
+    let set-apart = c .before .before .set-apart in
+    let bs = start .args .points .now in
+    sym (length-take-le (length bs - 1) (set-apart .result) (omega (arith, set-apart .ensures .long, start .pre .1 .0 .few)))
 
 solve-slots-add-solve-slots : (t : ℕ) → solve-slots-lts.Need-add-solve-slots (
   clear-reads.Asked,
@@ -163,7 +167,10 @@ solve-slots-add-solve-slots : (t : ℕ) → solve-slots-lts.Need-add-solve-slots
   first-value-reads.Asked,
   first-value-reads.Learnt,
 ) (solve-slots-at t) solve-slots.Post
-solve-slots-add-solve-slots t c = let w = c .before .before .before .before .before .before .before .before .before .before .before .before .before .pre .1 .0 in omega (arith, w .room 0 (some-of _ (c .before .before .before .before .before .before .before .before .before .if1 .left)), w .small, w .step)
+solve-slots-add-solve-slots t c =
+    let if1 = c .before .before .before .before .before .before .before .before .before .if1 in
+    let w = c .before .before .before .before .before .before .before .before .before .before .before .before .before .pre .1 .0 in
+    omega (arith, w .room 0 (some-of _ (if1 .left)), w .small, w .step)
 
 solve-slots-solve-slots-requires : (t : ℕ) → solve-slots-lts.Need-solve-slots-requires (
   clear-reads.Asked,
@@ -231,13 +238,17 @@ solve-slots-returns-2 : (t : ℕ) → solve-slots-lts.Need-returns-2 (
   first-value-reads.Learnt,
 ) (solve-slots-at t) solve-slots.Post
 solve-slots-returns-2 t c =
-    let a = c .before .before .before .before .before .before .before .before .before .before .before .before .before .before .before .before .before .before .before .before .args in
-    let w = c .before .before .before .before .before .before .before .before .before .before .before .before .before .before .before .before .before .before .before .before .pre .1 in
-    let k = c .before .before .before .before .before .before .before .before .before .before .before .before .before .clear in
+    let earlier = c .before .before .before .before .before .before .before .before .before .before .before in
+    let if1 = earlier .before .before .before .before .before .if1 in
+    let set-apart = c .before .before .before .before .before .before .before .before .before .before .set-apart in
+    let a = earlier .before .before .before .before .before .before .before .before .before .args in
+    let w = earlier .before .before .before .before .before .before .before .before .before .pre .1 in
+    let k = earlier .before .before .clear in
     let s = c .before .before .before .before .before .before .solve-slots in
     let f = c .before .before .first-value in
-    solved-turn (a .points .now) (a .weights .now) (a .at) (a .d) (a .n) (a .slots .now) (k .last .1 .1 .0) (c .before .before .before .before .before .before .before .before .before .before .set-apart .result) (s .last .1 .1 .0) (f .last .1 .0)
-    (c .before .before .before .before .before .before .before .before .before .before .before .before .before .before .before .before .if1 .left) (w .1) (w .0 .few) (w .0 .wide) (k .ensures) (c .before .before .before .before .before .before .before .before .before .before .set-apart .ensures) (s .ensures) (f .ensures)
+    solved-turn (a .points .now) (a .weights .now) (a .at) (a .d) (a .n) (a .slots .now) (k .last .1 .1 .0) (set-apart .result) (s .last .1 .1 .0)
+    (f .last .1 .0)
+    (if1 .left) (w .1) (w .0 .few) (w .0 .wide) (k .ensures) (set-apart .ensures) (s .ensures) (f .ensures)
 
 pub +solve-slots-spec : {M : Type 1} → statement M
 +solve-slots-spec = close μ-solve-slots λ t. solve-slots-lts.spec (

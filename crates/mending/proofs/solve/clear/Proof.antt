@@ -29,7 +29,9 @@ add-to : tie.Need-add-to Inv-loop μ-loop
 add-to c = let w = c .before .before .before .pre in omega (arith, w .0 .room (c .before .loop .u - 1) (omega arith), w .0 .small)
 
 sub-mix : tie.Need-sub-mix Inv-loop μ-loop
-sub-mix c = let some : 1 ≤ c .before .before .loop .u - 1 = omega (arith, c .before .loop-test .taken) in omega (arith, mul-le-mul-right (c .before .before .before .before .args .d) some)
+sub-mix c =
+    let some : 1 ≤ c .before .before .loop .u - 1 = omega (arith, c .before .loop-test .taken) in
+    omega (arith, mul-le-mul-right (c .before .before .before .before .args .d) some)
 
 mix-requires : tie.Need-mix-requires Inv-loop μ-loop
 mix-requires c κs = search needs
@@ -39,18 +41,22 @@ loop-less c = search needs
 
 loop-again : tie.Need-loop-again Inv-loop μ-loop
 loop-again c =
+    let loop-test = c .before .before .before .before .loop-test in
+    let mix = c .before .before .mix in
     let a = c .before .before .before .before .before .before .before .args in
     let t = c .before .before .before .before .before .loop in
     let w = c .before .before .before .before .before .before .before .pre in
     let r = w .0 .room (t .u - 1) (omega arith) in
-    let some : 1 ≤ t .u - 1 = omega (arith, c .before .before .before .before .loop-test .taken) in
+    let some : 1 ≤ t .u - 1 = omega (arith, loop-test .taken) in
     let back = mul-le-mul-right (a .d) some in
-    let far : Disjoint (a .at + (t .u - 1) * a .d) (a .at + (t .u - 1) * a .d - a .d) (a .n) (length (t .slots)) = record { first = omega (arith, r, t .inv .1 .1 .long); second = omega (arith, r, t .inv .1 .1 .long); clear = inr (omega (arith, w .0 .wide, back)) } in (
-      omega (arith, c .before .before .before .before .loop-test .taken),
+    let far : Disjoint (a .at + (t .u - 1) * a .d) (a .at + (t .u - 1) * a .d - a .d) (a .n) (length (t .slots)) = record
+    { first = omega (arith, r, t .inv .1 .1 .long); second = omega (arith, r, t .inv .1 .1 .long); clear = inr (omega (arith, w .0 .wide, back)) } in (
+      omega (arith, loop-test .taken),
       (
         omega (arith, t .inv .1 .0),
-        clearing-turn (a .c) (a .e) (a .at) (a .d) (a .n) (a .slots .now) (t .slots) (c .before .before .mix .last .0) (t .u) (t .u - 1)
-            (omega arith) (omega (arith, c .before .before .before .before .loop-test .taken)) (omega (arith, t .inv .1 .0, t .inv .0)) (c .before .before .before .before .before .before .before .pre .0 .wide) (t .inv .1 .1) (within-made far (c .before .before .mix .ensures)),
+        clearing-turn (a .c) (a .e) (a .at) (a .d) (a .n) (a .slots .now) (t .slots) (mix .last .0) (t .u) (t .u - 1)
+            (omega arith) (omega (arith, loop-test .taken)) (omega (arith, t .inv .1 .0, t .inv .0)) (w .0 .wide) (t .inv .1 .1)
+            (within-made far (mix .ensures)),
       ),
     )
 

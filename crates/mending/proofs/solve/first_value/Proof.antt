@@ -34,7 +34,8 @@ returns : tie.Need-returns
 returns c =
     let a = c .before .before .before .before .before .before .before .before .before .args in
     let g = c .before .before .before .before .gather in
-    first-one (a .weights .now) (a .at) (a .d) (a .n) (a .slots .now) (g .last .1 .0) (λ i. c .before .before .slice-known2 .given i .fits) (c .if1 .taken) (g .ensures)
+    first-one (a .weights .now) (a .at) (a .d) (a .n) (a .slots .now) (g .last .1 .0) (λ i. c .before .before .slice-known2 .given i .fits) (c .if1 .taken)
+    (g .ensures)
 
 inverse-requires : tie.Need-inverse-requires
 inverse-requires c κs = search needs
@@ -49,7 +50,9 @@ part-scale-all-start : tie.Need-part-scale-all-start
 part-scale-all-start c = search needs
 
 part-scale-all-end : tie.Need-part-scale-all-end
-part-scale-all-end c = let w = c .before .before .before .before .before .before .before .before .before .before .pre in omega (arith, w .0 .room 0 (w .1), c .before .before .before .before .before .gather .ensures .long)
+part-scale-all-end c =
+    let w = c .before .before .before .before .before .before .before .before .before .before .pre in
+    omega (arith, w .0 .room 0 (w .1), c .before .before .before .before .before .gather .ensures .long)
 
 scale-all-requires : tie.Need-scale-all-requires
 scale-all-requires c κs = search needs
@@ -62,7 +65,8 @@ returns-2 c =
     let a = c .before .before .before .before .before .before .before .before .before .before .before .before .before .before .args in
     let w = c .before .before .before .before .before .before .before .before .before .before .before .before .before .before .pre in
     let g = c .before .before .before .before .before .before .before .before .before .gather in
-    first-made (a .weights .now) (a .at) (a .d) (a .n) _ (a .slots .now) (g .last .1 .0) _ (omega (arith, w .0 .room 0 (w .1), g .ensures .long)) (g .ensures) (c .before .before .before .before .inverse .ensures) (c .before .before .scale-all .ensures)
+    first-made (a .weights .now) (a .at) (a .d) (a .n) _ (a .slots .now) (g .last .1 .0) _ (omega (arith, w .0 .room 0 (w .1), g .ensures .long)) (g .ensures)
+    (c .before .before .before .before .inverse .ensures) (c .before .before .scale-all .ensures)
 
 pub first-value-spec : {M : Type 1} → statement M
 first-value-spec =

@@ -47,12 +47,14 @@ loop-less c = search needs
 loop-again : tie.Need-loop-again Inv-loop μ-loop
 unfolding _⊕_
 loop-again c =
-    let a = c .before .before .before .before .before .before .before .before .args in
+    let start = c .before .before .before .before .before .before .before .before in
+    let a = start .args in
     let l = c .before .before .before .before .before .loop in (
       search needs,
       (
         simp length-set (l .inv .1 .0),
-        setting-turn (a .points .now) (a .weights .now) (l .w) (l .v) _ (l .inv .0) (c .before .before .before .before .loop-test .taken) (c .before .before .before .before .before .before .before .before .pre .0) (l .inv .1 .0) (l .inv .1 .1) (c .product .ensures),
+        setting-turn (a .points .now) (a .weights .now) (l .w) (l .v) _ (l .inv .0) (c .before .before .before .before .loop-test .taken) (start .pre .0)
+            (l .inv .1 .0) (l .inv .1 .1) (c .product .ensures),
       ),
     )
 

@@ -37,10 +37,13 @@ array-read-if1 c = search needs
 
 returns : tie.Need-returns Inv-loop μ-loop
 returns c =
-    let a = c .before .before .before .before .args in (
+    let start = c .before .before .before .before in
+    let loop = c .before .before .loop in
+    let a = start .args in (
       omega arith,
-      data-first (a .k) 0 (a .n) (a .lost .at) (a .lost .count) (c .before .before .loop .v) (c .before .before .before .before .pre .1) (omega (arith, room-at (a .lost) (c .before .before .before .before .good .0), c .before .before .before .before .pre .0)) (omega arith)
-          (c .before .before .loop .inv .1 .1) (λ h. c .if1 .taken),
+      data-first (a .k) 0 (a .n) (a .lost .at) (a .lost .count) (loop .v) (start .pre .1) (omega (arith, room-at (a .lost) (start .good .0), start .pre .0))
+          (omega arith)
+          (loop .inv .1 .1) (λ h. c .if1 .taken),
     )
 
 add-v : tie.Need-add-v Inv-loop μ-loop
@@ -54,9 +57,11 @@ loop-again c = (search needs, (search needs, below-more _ _ (c .before .before .
 
 returns-2 : tie.Need-returns-2 Inv-loop μ-loop
 returns-2 c =
-    let a = c .before .before .before .args in (
+    let start = c .before .before .before in
+    let a = start .args in (
       omega arith,
-      data-first (a .k) 0 (a .n) (a .lost .at) (a .lost .count) (c .before .loop .v) (c .before .before .before .pre .1) (omega (arith, room-at (a .lost) (c .before .before .before .good .0), c .before .before .before .pre .0)) (omega arith)
+      data-first (a .k) 0 (a .n) (a .lost .at) (a .lost .count) (c .before .loop .v) (start .pre .1)
+          (omega (arith, room-at (a .lost) (start .good .0), start .pre .0)) (omega arith)
           (c .before .loop .inv .1 .1) (λ h. absurd (omega arith)),
     )
 

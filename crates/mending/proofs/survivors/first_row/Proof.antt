@@ -20,13 +20,23 @@ is-lost-requires-2 : tie.Need-is-lost-requires-2
 is-lost-requires-2 c κs = search needs
 
 returns : tie.Need-returns
-returns c = first-both (rowLost (c .before .before .before .before .args .k) (lostList (c .before .before .before .before .args .lost))) (ap (λ (x : ℕ). among x (lostList (c .before .before .before .before .args .lost))) (add-zero _) ∙ sym (c .before .before .before .is-lost .ensures) ∙ c .before .before .if1 .taken) (sym (c .before .is-lost2 .ensures) ∙ c .if2 .taken)
+returns c =
+    let start = c .before .before .before .before in
+    first-both (rowLost (start .args .k) (lostList (start .args .lost)))
+    (ap (λ (x : ℕ). among x (lostList (start .args .lost))) (add-zero _) ∙ sym (c .before .before .before .is-lost .ensures) ∙ c .before .before .if1 .taken)
+    (sym (c .before .is-lost2 .ensures) ∙ c .if2 .taken)
 
 returns-2 : tie.Need-returns-2
-returns-2 c = first-one (rowLost (c .before .before .before .before .args .k) (lostList (c .before .before .before .before .args .lost))) (ap (λ (x : ℕ). among x (lostList (c .before .before .before .before .args .lost))) (add-zero _) ∙ sym (c .before .before .before .is-lost .ensures) ∙ c .before .before .if1 .taken) (sym (c .before .is-lost2 .ensures) ∙ c .if2 .left)
+returns-2 c =
+    let start = c .before .before .before .before in
+    first-one (rowLost (start .args .k) (lostList (start .args .lost)))
+    (ap (λ (x : ℕ). among x (lostList (start .args .lost))) (add-zero _) ∙ sym (c .before .before .before .is-lost .ensures) ∙ c .before .before .if1 .taken)
+    (sym (c .before .is-lost2 .ensures) ∙ c .if2 .left)
 
 returns-3 : tie.Need-returns-3
-returns-3 c = first-none (rowLost (c .before .before .args .k) (lostList (c .before .before .args .lost))) (ap (λ (x : ℕ). among x (lostList (c .before .before .args .lost))) (add-zero _) ∙ sym (c .before .is-lost .ensures) ∙ c .if1 .left)
+returns-3 c =
+    first-none (rowLost (c .before .before .args .k) (lostList (c .before .before .args .lost)))
+    (ap (λ (x : ℕ). among x (lostList (c .before .before .args .lost))) (add-zero _) ∙ sym (c .before .is-lost .ensures) ∙ c .if1 .left)
 
 pub first-row-spec : {M : Type 1} → statement M
 first-row-spec =

@@ -38,7 +38,8 @@ array-read-if1 c = search needs
 returns : tie.Need-returns Inv-loop μ-loop
 returns c =
     let a = c .before .before .before .before .args in
-    found (a .lost .at) (a .lost .count) (a .c) (c .before .before .loop .v) (search needs) (omega (arith, room-at (a .lost) (c .before .before .before .before .good .0))) (c .if1 .taken)
+    found (a .lost .at) (a .lost .count) (a .c) (c .before .before .loop .v) (search needs)
+    (omega (arith, room-at (a .lost) (c .before .before .before .before .good .0))) (c .if1 .taken)
 
 add-v : tie.Need-add-v Inv-loop μ-loop
 add-v c = search needs
@@ -52,7 +53,8 @@ loop-again c = (search needs, (search needs, below-more _ _ (c .before .before .
 returns-2 : tie.Need-returns-2 Inv-loop μ-loop
 returns-2 c =
     let a = c .before .before .before .args in
-    none (a .lost .at) (a .lost .count) (a .c) (λ j w. c .before .loop .inv .1 .1 j (omega arith)) (omega (arith, room-at (a .lost) (c .before .before .before .good .0)))
+    none (a .lost .at) (a .lost .count) (a .c) (λ j w. c .before .loop .inv .1 .1 j (omega arith))
+    (omega (arith, room-at (a .lost) (c .before .before .before .good .0)))
 
 pub is-lost-spec : {M : Type 1} → statement M
 is-lost-spec =

@@ -14,7 +14,9 @@ is-lost-requires : tie.Need-is-lost-requires
 is-lost-requires c κs = search needs
 
 returns : tie.Need-returns
-returns c = step-one (rowLost (c .before .before .args .k) (lostList (c .before .before .args .lost))) (ap (λ (x : ℕ). among x (lostList (c .before .before .args .lost))) (add-zero _) ∙ sym (c .before .is-lost .ensures) ∙ c .if1 .taken)
+returns c =
+    step-one (rowLost (c .before .before .args .k) (lostList (c .before .before .args .lost)))
+    (ap (λ (x : ℕ). among x (lostList (c .before .before .args .lost))) (add-zero _) ∙ sym (c .before .is-lost .ensures) ∙ c .if1 .taken)
 
 add-is-lost : tie.Need-add-is-lost
 add-is-lost c = search needs
@@ -23,10 +25,18 @@ is-lost-requires-2 : tie.Need-is-lost-requires-2
 is-lost-requires-2 c κs = search needs
 
 returns-2 : tie.Need-returns-2
-returns-2 c = step-two (rowLost (c .before .before .before .before .args .k) (lostList (c .before .before .before .before .args .lost))) (ap (λ (x : ℕ). among x (lostList (c .before .before .before .before .args .lost))) (add-zero _) ∙ sym (c .before .before .before .is-lost .ensures) ∙ c .before .before .if1 .left) (sym (c .before .is-lost2 .ensures) ∙ c .if2 .taken)
+returns-2 c =
+    let start = c .before .before .before .before in
+    step-two (rowLost (start .args .k) (lostList (start .args .lost)))
+    (ap (λ (x : ℕ). among x (lostList (start .args .lost))) (add-zero _) ∙ sym (c .before .before .before .is-lost .ensures) ∙ c .before .before .if1 .left)
+    (sym (c .before .is-lost2 .ensures) ∙ c .if2 .taken)
 
 returns-3 : tie.Need-returns-3
-returns-3 c = step-next (rowLost (c .before .before .before .before .args .k) (lostList (c .before .before .before .before .args .lost))) (ap (λ (x : ℕ). among x (lostList (c .before .before .before .before .args .lost))) (add-zero _) ∙ sym (c .before .before .before .is-lost .ensures) ∙ c .before .before .if1 .left) (sym (c .before .is-lost2 .ensures) ∙ c .if2 .left)
+returns-3 c =
+    let start = c .before .before .before .before in
+    step-next (rowLost (start .args .k) (lostList (start .args .lost)))
+    (ap (λ (x : ℕ). among x (lostList (start .args .lost))) (add-zero _) ∙ sym (c .before .before .before .is-lost .ensures) ∙ c .before .before .if1 .left)
+    (sym (c .before .is-lost2 .ensures) ∙ c .if2 .left)
 
 pub row-step-spec : {M : Type 1} → statement M
 row-step-spec =

@@ -29,7 +29,11 @@ sub-power : tie.Need-sub-power Inv-loop μ-loop
 sub-power c = c .before .before .before .before .before .pre .1 .1 .1 (c .before .before .loop .v) (c .if1 .taken) .0
 
 mul-power-2 : tie.Need-mul-power-2 Inv-loop μ-loop
-mul-power-2 c = let w = c .before .before .before .before .before .pre .1 .1 in omega (arith, small-product (getD (c .before .before .before .before .before .args .p .lost .at) (c .before .before .loop .v) 0) (c .before .before .before .before .before .args .x) (c .before .before .before .before .before .args .j) (w .1 (c .before .before .loop .v) (c .if1 .taken) .1) (w .0))
+mul-power-2 c =
+    let start = c .before .before .before .before .before in
+    let loop = c .before .before .loop in
+    let w = start .pre .1 .1 in
+    omega (arith, small-product (getD (start .args .p .lost .at) (loop .v) 0) (start .args .x) (start .args .j) (w .1 (loop .v) (c .if1 .taken) .1) (w .0))
 
 power-requires : tie.Need-power-requires Inv-loop μ-loop
 power-requires c κs = search needs
@@ -50,15 +54,19 @@ loop-again c =
       omega (arith, c .before .if1 .taken),
       (
         simp length-set (l .inv .1 .0),
-        weights-turn (a .p .lost .at) (l .w) (a .x) (a .j) (l .v) _ (l .inv .1 .0) (omega (arith, c .before .if1 .taken, c .before .before .before .before .before .before .pre .1 .0)) (l .inv .1 .1) (c .power .ensures),
+        weights-turn (a .p .lost .at) (l .w) (a .x) (a .j) (l .v) _ (l .inv .1 .0)
+            (omega (arith, c .before .if1 .taken, c .before .before .before .before .before .before .pre .1 .0)) (l .inv .1 .1) (c .power .ensures),
       ),
     )
 
 returns : tie.Need-returns Inv-loop μ-loop
 returns c =
+    let start = c .before .before .before .before .before in
     let l = c .before .before .loop in
-    let a = c .before .before .before .before .before .args in
-    (l .inv .1 .0, weights-done (a .p .lost .at) (l .w) (a .p .count) (a .x) (a .j) (l .v) (c .if1 .left) (c .before .before .before .before .before .pre .1 .0) (c .before .before .before .before .before .pre .0) (l .inv .1 .0) (l .inv .1 .1))
+    let a = start .args in (
+      l .inv .1 .0,
+      weights-done (a .p .lost .at) (l .w) (a .p .count) (a .x) (a .j) (l .v) (c .if1 .left) (start .pre .1 .0) (start .pre .0) (l .inv .1 .0) (l .inv .1 .1),
+    )
 
 pub row-weights-spec : {M : Type 1} → statement M
 row-weights-spec =

@@ -17,7 +17,8 @@ first-row-requires : tie.Need-first-row-requires
 first-row-requires c κs = let f = allowed (c .before .args .s) (c .before .pre .shape) in (omega (arith, f .parity-most, c .before .pre .few), f .data-most)
 
 row-step-requires : tie.Need-row-step-requires
-row-step-requires c κs = let f = allowed (c .before .before .args .s) (c .before .before .pre .shape) in (omega (arith, f .parity-most, c .before .before .pre .few), f .data-most)
+row-step-requires c κs =
+    let f = allowed (c .before .before .args .s) (c .before .before .pre .shape) in (omega (arith, f .parity-most, c .before .before .pre .few), f .data-most)
 
 array-read-pivot-of : tie.Need-array-read-pivot-of
 array-read-pivot-of c = search needs
@@ -28,8 +29,11 @@ pivot-of-requires c κs = search needs
 returns : tie.Need-returns
 returns c =
     let a = c .before .before .before .before .before .args in
-    let e = c .before .before .before .before .data-lost .ensures in
-    (refl, posed (a .s) (a .lost) _ _ _ _ (c .before .before .before .before .before .pre) (e .0) (e .1) (c .pivot-of .ensures) (c .before .before .before .first-row .ensures) (c .before .before .row-step .ensures))
+    let e = c .before .before .before .before .data-lost .ensures in (
+      refl,
+      posed (a .s) (a .lost) _ _ _ _ (c .before .before .before .before .before .pre) (e .0) (e .1) (c .pivot-of .ensures)
+          (c .before .before .before .first-row .ensures) (c .before .before .row-step .ensures),
+    )
 
 pub system-of-spec : {M : Type 1} → statement M
 system-of-spec =

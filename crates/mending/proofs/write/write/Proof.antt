@@ -17,7 +17,9 @@ abbrev μ-loop : tie.MeasureT-loop
 μ-loop s p slots stripe₀ l lost at v₀ stripe v = p .lost .count - v
 
 loop-holds : tie.Need-loop-holds Inv-loop μ-loop
-loop-holds c = (omega arith, added-start (c .before .before .before .before .args .s) (allowed (c .before .before .before .before .args .s) (c .before .before .before .before .pre .0 .shape)) (c .before .before .before .before .args .p) (c .before .before .before .before .pre .0 .posed) _ _)
+loop-holds c =
+    let start = c .before .before .before .before in
+    (omega arith, added-start (start .args .s) (allowed (start .args .s) (start .pre .0 .shape)) (start .args .p) (start .pre .0 .posed) _ _)
 
 mul-i : tie.Need-mul-i Inv-loop μ-loop
 mul-i c = omega (arith, c .before .before .loop .inv .0, c .before .before .before .before .before .before .before .pre .0 .posed .few)
@@ -26,23 +28,50 @@ array-read-i : tie.Need-array-read-i Inv-loop μ-loop
 array-read-i c = omega (arith, c .if1 .taken, c .before .before .before .before .before .before .before .pre .0 .posed .few)
 
 mul-c : tie.Need-mul-c Inv-loop μ-loop
-mul-c c = let z = write-sizes (c .before .before .before .before .before .before .before .args .s) (allowed (c .before .before .before .before .before .before .before .args .s) (c .before .before .before .before .before .before .before .pre .0 .shape)) (c .before .before .before .before .before .before .before .args .p) (c .before .before .before .before .before .before .before .pre .0 .posed) (c .before .before .loop .v) (c .if1 .taken) in omega (arith, z .column, z .most)
+mul-c c =
+    let start = c .before .before .before .before .before .before .before in
+    let z = write-sizes (start .args .s) (allowed (start .args .s) (start .pre .0 .shape)) (start .args .p) (start .pre .0 .posed) (c .before .before .loop .v)
+    (c .if1 .taken) in
+    omega (arith, z .column, z .most)
 
 add-e : tie.Need-add-e Inv-loop μ-loop
-add-e c = let z = write-sizes (c .before .before .before .before .before .before .before .args .s) (allowed (c .before .before .before .before .before .before .before .args .s) (c .before .before .before .before .before .before .before .pre .0 .shape)) (c .before .before .before .before .before .before .before .args .p) (c .before .before .before .before .before .before .before .pre .0 .posed) (c .before .before .loop .v) (c .if1 .taken) in omega (arith, z .column, z .most)
+add-e c =
+    let start = c .before .before .before .before .before .before .before in
+    let z = write-sizes (start .args .s) (allowed (start .args .s) (start .pre .0 .shape)) (start .args .p) (start .pre .0 .posed) (c .before .before .loop .v)
+    (c .if1 .taken) in
+    omega (arith, z .column, z .most)
 
 slot-row-requires : tie.Need-slot-row-requires Inv-loop μ-loop
 slot-row-requires c κs =
+    let loop = c .before .before .loop in
     let a = c .before .before .before .before .before .before .before .args in
     let w = c .before .before .before .before .before .before .before .pre .0 .posed in
-    let f = allowed (a .s) (c .before .before .before .before .before .before .before .pre .0 .shape) in
-    (omega (arith, first-few (a .s) f (a .p) w), (omega (arith, step-few (a .s) f (a .p) w), (omega (arith, c .before .before .loop .inv .0, w .few), row-position (a .s) f (a .p) w (c .before .before .loop .v) (c .if1 .taken))))
+    let f = allowed (a .s) (c .before .before .before .before .before .before .before .pre .0 .shape) in (
+      omega (arith, first-few (a .s) f (a .p) w),
+      (omega (arith, step-few (a .s) f (a .p) w), (omega (arith, loop .inv .0, w .few), row-position (a .s) f (a .p) w (loop .v) (c .if1 .taken))),
+    )
 
 mul-a : tie.Need-mul-a Inv-loop μ-loop
-mul-a c = let z = write-sizes (c .before .before .before .before .before .before .before .before .args .s) (allowed (c .before .before .before .before .before .before .before .before .args .s) (c .before .before .before .before .before .before .before .before .pre .0 .shape)) (c .before .before .before .before .before .before .before .before .args .p) (c .before .before .before .before .before .before .before .before .pre .0 .posed) (c .before .before .before .loop .v) (c .before .if1 .taken) in let r = slot-ends (c .before .before .before .before .before .before .before .before .args .s) (allowed (c .before .before .before .before .before .before .before .before .args .s) (c .before .before .before .before .before .before .before .before .pre .0 .shape)) (c .before .before .before .before .before .before .before .before .args .p) (c .before .before .before .before .before .before .before .before .pre .0 .posed) (c .slot-row .result) (subst (λ (x : ℕ). x < c .before .before .before .before .before .before .before .before .args .s .r) (sym (c .slot-row .ensures)) (slot-below (c .before .before .before .before .before .before .before .before .args .s) (allowed (c .before .before .before .before .before .before .before .before .args .s) (c .before .before .before .before .before .before .before .before .pre .0 .shape)) (c .before .before .before .before .before .before .before .before .args .p) (c .before .before .before .before .before .before .before .before .pre .0 .posed) (c .before .before .before .loop .v) (c .before .if1 .taken))) in omega (arith, r, z .small)
+mul-a c =
+    let start = c .before .before .before .before .before .before .before .before in
+    let loop = c .before .before .before .loop in
+    let z = write-sizes (start .args .s) (allowed (start .args .s) (start .pre .0 .shape)) (start .args .p) (start .pre .0 .posed) (loop .v)
+    (c .before .if1 .taken) in
+    let r = slot-ends (start .args .s) (allowed (start .args .s) (start .pre .0 .shape)) (start .args .p) (start .pre .0 .posed) (c .slot-row .result)
+    (subst (λ (x : ℕ). x < start .args .s .r) (sym (c .slot-row .ensures)) (slot-below (start .args .s) (allowed (start .args .s) (start .pre .0 .shape))
+    (start .args .p) (start .pre .0 .posed) (loop .v) (c .before .if1 .taken))) in
+    omega (arith, r, z .small)
 
 add-f : tie.Need-add-f Inv-loop μ-loop
-add-f c = let z = write-sizes (c .before .before .before .before .before .before .before .before .args .s) (allowed (c .before .before .before .before .before .before .before .before .args .s) (c .before .before .before .before .before .before .before .before .pre .0 .shape)) (c .before .before .before .before .before .before .before .before .args .p) (c .before .before .before .before .before .before .before .before .pre .0 .posed) (c .before .before .before .loop .v) (c .before .if1 .taken) in let r = slot-ends (c .before .before .before .before .before .before .before .before .args .s) (allowed (c .before .before .before .before .before .before .before .before .args .s) (c .before .before .before .before .before .before .before .before .pre .0 .shape)) (c .before .before .before .before .before .before .before .before .args .p) (c .before .before .before .before .before .before .before .before .pre .0 .posed) (c .slot-row .result) (subst (λ (x : ℕ). x < c .before .before .before .before .before .before .before .before .args .s .r) (sym (c .slot-row .ensures)) (slot-below (c .before .before .before .before .before .before .before .before .args .s) (allowed (c .before .before .before .before .before .before .before .before .args .s) (c .before .before .before .before .before .before .before .before .pre .0 .shape)) (c .before .before .before .before .before .before .before .before .args .p) (c .before .before .before .before .before .before .before .before .pre .0 .posed) (c .before .before .before .loop .v) (c .before .if1 .taken))) in omega (arith, r, z .small)
+add-f c =
+    let start = c .before .before .before .before .before .before .before .before in
+    let loop = c .before .before .before .loop in
+    let z = write-sizes (start .args .s) (allowed (start .args .s) (start .pre .0 .shape)) (start .args .p) (start .pre .0 .posed) (loop .v)
+    (c .before .if1 .taken) in
+    let r = slot-ends (start .args .s) (allowed (start .args .s) (start .pre .0 .shape)) (start .args .p) (start .pre .0 .posed) (c .slot-row .result)
+    (subst (λ (x : ℕ). x < start .args .s .r) (sym (c .slot-row .ensures)) (slot-below (start .args .s) (allowed (start .args .s) (start .pre .0 .shape))
+    (start .args .p) (start .pre .0 .posed) (loop .v) (c .before .if1 .taken))) in
+    omega (arith, r, z .small)
 
 sub-add : tie.Need-sub-add Inv-loop μ-loop
 sub-add c = omega arith
@@ -51,7 +80,12 @@ part-add-start : tie.Need-part-add-start Inv-loop μ-loop
 part-add-start c = search needs
 
 part-add-end : tie.Need-part-add-end Inv-loop μ-loop
-part-add-end c = let z = write-sizes (c .before .before .before .before .before .before .before .before .args .s) (allowed (c .before .before .before .before .before .before .before .before .args .s) (c .before .before .before .before .before .before .before .before .pre .0 .shape)) (c .before .before .before .before .before .before .before .before .args .p) (c .before .before .before .before .before .before .before .before .pre .0 .posed) (c .before .before .before .loop .v) (c .before .if1 .taken) in omega (arith, z .column, c .before .before .before .loop .inv .1 .long, c .before .before .before .before .before .before .before .before .pre .1)
+part-add-end c =
+    let start = c .before .before .before .before .before .before .before .before in
+    let loop = c .before .before .before .loop in
+    let z = write-sizes (start .args .s) (allowed (start .args .s) (start .pre .0 .shape)) (start .args .p) (start .pre .0 .posed) (loop .v)
+    (c .before .if1 .taken) in
+    omega (arith, z .column, loop .inv .1 .long, start .pre .1)
 
 sub-add-2 : tie.Need-sub-add-2 Inv-loop μ-loop
 sub-add-2 c = omega arith
@@ -60,25 +94,38 @@ part-add-start-2 : tie.Need-part-add-start-2 Inv-loop μ-loop
 part-add-start-2 c = search needs
 
 part-add-end-2 : tie.Need-part-add-end-2 Inv-loop μ-loop
-part-add-end-2 c = let r = slot-ends (c .before .before .before .before .before .before .before .before .before .args .s) (allowed (c .before .before .before .before .before .before .before .before .before .args .s) (c .before .before .before .before .before .before .before .before .before .pre .0 .shape)) (c .before .before .before .before .before .before .before .before .before .args .p) (c .before .before .before .before .before .before .before .before .before .pre .0 .posed) (c .before .slot-row .result) (subst (λ (x : ℕ). x < c .before .before .before .before .before .before .before .before .before .args .s .r) (sym (c .before .slot-row .ensures)) (slot-below (c .before .before .before .before .before .before .before .before .before .args .s) (allowed (c .before .before .before .before .before .before .before .before .before .args .s) (c .before .before .before .before .before .before .before .before .before .pre .0 .shape)) (c .before .before .before .before .before .before .before .before .before .args .p) (c .before .before .before .before .before .before .before .before .before .pre .0 .posed) (c .before .before .before .before .loop .v) (c .before .before .if1 .taken))) in omega (arith, r, c .before .before .before .before .before .before .before .before .before .pre .0 .long)
+part-add-end-2 c =
+    let start = c .before .before .before .before .before .before .before .before .before in
+    let slot-row = c .before .slot-row in
+    let r = slot-ends (start .args .s) (allowed (start .args .s) (start .pre .0 .shape)) (start .args .p) (start .pre .0 .posed) (slot-row .result)
+    (subst (λ (x : ℕ). x < start .args .s .r) (sym (slot-row .ensures)) (slot-below (start .args .s) (allowed (start .args .s) (start .pre .0 .shape))
+    (start .args .p) (start .pre .0 .posed) (c .before .before .before .before .loop .v) (c .before .before .if1 .taken))) in
+    omega (arith, r, start .pre .0 .long)
 
 add-requires : tie.Need-add-requires Inv-loop μ-loop
 add-requires c κs = search needs
 
 add-v : tie.Need-add-v Inv-loop μ-loop
-add-v c = omega (arith, c .before .before .before .before .before .before .before .before .loop .inv .0, c .before .before .before .before .before .before .before .before .before .before .before .before .before .pre .0 .posed .few)
+add-v c =
+    let start = c .before .before .before .before .before .before .before .before .before .before .before .before .before in
+    let loop = c .before .before .before .before .before .before .before .before .loop in
+    omega (arith, loop .inv .0, start .pre .0 .posed .few)
 
 loop-less : tie.Need-loop-less Inv-loop μ-loop
 loop-less c = omega (arith, c .before .before .before .before .before .before .if1 .taken)
 
 loop-again : tie.Need-loop-again Inv-loop μ-loop
 loop-again c =
+    let if1 = c .before .before .before .before .before .before .if1 in
+    let slot-row = c .before .before .before .before .before .slot-row in
+    let add = c .before .before .add in
     let a = c .before .before .before .before .before .before .before .before .before .before .before .before .before .args in
     let w = c .before .before .before .before .before .before .before .before .before .before .before .before .before .pre in
     let t = c .before .before .before .before .before .before .before .before .loop in (
-      omega (arith, c .before .before .before .before .before .before .if1 .taken),
-      added-turn (a .s) (allowed (a .s) (w .0 .shape)) (a .p) (w .0 .posed) (t .v) (c .before .before .before .before .before .slot-row .result) (a .slots .now) (a .stripe .now) (t .stripe) (c .before .before .add .last .0)
-          (c .before .before .before .before .before .before .if1 .taken) (w .1) (w .0 .long) (t .inv .1) (c .before .before .before .before .before .slot-row .ensures) (c .before .before .add .ensures),
+      omega (arith, if1 .taken),
+      added-turn (a .s) (allowed (a .s) (w .0 .shape)) (a .p) (w .0 .posed) (t .v) (slot-row .result) (a .slots .now) (a .stripe .now) (t .stripe)
+          (add .last .0)
+          (if1 .taken) (w .1) (w .0 .long) (t .inv .1) (slot-row .ensures) (add .ensures),
     )
 
 same-length : tie.Need-same-length Inv-loop μ-loop
@@ -86,9 +133,10 @@ same-length c = c .before .before .loop .inv .1 .long
 
 returns : tie.Need-returns Inv-loop μ-loop
 returns c =
+    let start = c .before .before .before .before .before .before .before in
     let t = c .before .before .loop in
-    let e : t .v ≡ c .before .before .before .before .before .before .before .args .p .lost .count = omega (arith, t .inv .0, c .if1 .left) in
-    subst (λ (x : ℕ). MendedBelow (c .before .before .before .before .before .before .before .args .s) (c .before .before .before .before .before .before .before .args .p) x (c .before .before .before .before .before .before .before .args .slots .now) (c .before .before .before .before .before .before .before .args .stripe .now) (t .stripe)) e (t .inv .1)
+    let e : t .v ≡ start .args .p .lost .count = omega (arith, t .inv .0, c .if1 .left) in
+    subst (λ (x : ℕ). MendedBelow (start .args .s) (start .args .p) x (start .args .slots .now) (start .args .stripe .now) (t .stripe)) e (t .inv .1)
 
 pub write-spec : {M : Type 1} → statement M
 write-spec =

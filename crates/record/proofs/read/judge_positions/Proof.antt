@@ -14,7 +14,8 @@ use Rattle.record.proofs.read.judge_positions.Statement.{statement}
 use Rattle.record.proofs.read.judge_positions.Tie as tie
 
 abbrev Inv-loop : tie.InvT-loop
-Inv-loop s n m first left₀ least₀ at₀ left least at = (positionsRefusal s n left least at ≡ positionsRefusal s n m 0 first) × (afterPositions s left at ≡ afterPositions s m first)
+Inv-loop s n m first left₀ least₀ at₀ left least at =
+    (positionsRefusal s n left least at ≡ positionsRefusal s n m 0 first) × (afterPositions s left at ≡ afterPositions s m first)
 
 abbrev μ-loop : tie.MeasureT-loop
 μ-loop s n m first left₀ least₀ at₀ left least at = left
@@ -30,12 +31,14 @@ position-refusal-requires c κs = search needs
 
 returns : tie.Need-returns Inv-loop μ-loop
 returns c =
+    let position-refusal = c .before .position-refusal in
     let a = c .before .before .before .before .before .before .args in
     let v = c .before .before .before .before .loop in
     let g = c .before .before .read-number .ensures in
-    let e = c .before .position-refusal .ensures ∙ ap (λ (x : Number). positionRefusal x (v .least) (a .n)) g in
-    unlisted (now (a .s)) (a .n) (a .m) (a .first) (c .before .position-refusal .result)
-    (positions-stop (now (a .s)) (a .n) (v .left) (v .least) (v .at) (c .before .before .before .loop-test .taken) (c .before .position-refusal .result) e (c .if1 .taken) ∙ v .inv .0) (c .if1 .taken)
+    let e = position-refusal .ensures ∙ ap (λ (x : Number). positionRefusal x (v .least) (a .n)) g in
+    unlisted (now (a .s)) (a .n) (a .m) (a .first) (position-refusal .result)
+    (positions-stop (now (a .s)) (a .n) (v .left) (v .least) (v .at) (c .before .before .before .loop-test .taken) (position-refusal .result) e (c .if1 .taken)
+    ∙ v .inv .0) (c .if1 .taken)
 
 value-of-requires : tie.Need-value-of-requires Inv-loop μ-loop
 value-of-requires c κs = search needs
@@ -58,14 +61,18 @@ loop-less c = search needs
 
 loop-again : tie.Need-loop-again Inv-loop μ-loop
 loop-again c =
+    let loop-test = c .before .before .before .before .before .loop-test in
     let a = c .before .before .before .before .before .before .before .before .args in
     let v = c .before .before .before .before .before .before .loop in
     let g = c .before .before .before .before .read-number .ensures in
     let x = c .before .value-of .ensures ∙ ap valueOf g in
     let y = c .next-of .ensures ∙ ap nextOf g in
-    let e = sym (c .before .before .before .position-refusal .ensures ∙ ap (λ (w : Number). positionRefusal w (v .least) (a .n)) g) ∙ c .before .before .if1 .left in (
-      ap₂ (λ (p q : ℕ). positionsRefusal (now (a .s)) (a .n) (v .left - 1) (p + 1) q) x y ∙ positions-turn (now (a .s)) (a .n) (v .left) (v .least) (v .at) (c .before .before .before .before .before .loop-test .taken) e ∙ v .inv .0,
-      ap (afterPositions (now (a .s)) (v .left - 1)) y ∙ after-turn (now (a .s)) (a .n) (v .left) (v .least) (v .at) (c .before .before .before .before .before .loop-test .taken) ∙ v .inv .1,
+    let e = sym (c .before .before .before .position-refusal .ensures ∙ ap (λ (w : Number). positionRefusal w (v .least) (a .n)) g)
+    ∙ c .before .before .if1 .left in (
+      ap₂ (λ (p q : ℕ). positionsRefusal (now (a .s)) (a .n) (v .left - 1) (p + 1) q) x y
+          ∙ positions-turn (now (a .s)) (a .n) (v .left) (v .least) (v .at) (loop-test .taken) e
+          ∙ v .inv .0,
+      ap (afterPositions (now (a .s)) (v .left - 1)) y ∙ after-turn (now (a .s)) (a .n) (v .left) (v .least) (v .at) (loop-test .taken) ∙ v .inv .1,
     )
 
 returns-2 : tie.Need-returns-2 Inv-loop μ-loop

@@ -10,7 +10,10 @@ number-refusal-requires : tie.Need-number-refusal-requires
 number-refusal-requires c κs = search needs
 
 returns : tie.Need-returns
-returns c = let a = c .before .before .args in position-number (a .g) (a .least) (a .n) (c .before .number-refusal .result) (c .before .number-refusal .ensures) (c .if1 .taken)
+returns c =
+    let number-refusal = c .before .number-refusal in
+    let a = c .before .before .args in
+    position-number (a .g) (a .least) (a .n) (number-refusal .result) (number-refusal .ensures) (c .if1 .taken)
 
 value-of-requires : tie.Need-value-of-requires
 value-of-requires c κs = search needs
@@ -25,13 +28,15 @@ returns-3 : tie.Need-returns-3
 returns-3 c =
     let a = c .before .before .before .before .before .args in
     let v = c .before .before .value-of .ensures in
-    position-high (a .g) (a .least) (a .n) (sym (c .before .before .before .before .number-refusal .ensures) ∙ c .before .before .before .if1 .left) (omega arith) (omega arith)
+    position-high (a .g) (a .least) (a .n) (sym (c .before .before .before .before .number-refusal .ensures) ∙ c .before .before .before .if1 .left)
+    (omega arith) (omega arith)
 
 returns-4 : tie.Need-returns-4
 returns-4 c =
     let a = c .before .before .before .before .before .args in
     let v = c .before .before .value-of .ensures in
-    position-lawful (a .g) (a .least) (a .n) (sym (c .before .before .before .before .number-refusal .ensures) ∙ c .before .before .before .if1 .left) (omega arith) (omega arith)
+    position-lawful (a .g) (a .least) (a .n) (sym (c .before .before .before .before .number-refusal .ensures) ∙ c .before .before .before .if1 .left)
+    (omega arith) (omega arith)
 
 pub position-refusal-spec : {M : Type 1} → statement M
 position-refusal-spec =

@@ -29,7 +29,8 @@ returns-2 c =
     let s = now (a .bytes) in
     let x = length (now (a .stripe)) in
     let y = length (now (a .lost)) in
-    read-refused s (now (a .stripe)) (now (a .lost)) 5 (c .refused2 .result) (c .refused2 .ensures) (read-buffer s x y (c .before .before .if1 .left) (c .before .if2 .taken)) (λ z. omega arith)
+    read-refused s (now (a .stripe)) (now (a .lost)) 5 (c .refused2 .result) (c .refused2 .ensures)
+    (read-buffer s x y (c .before .before .if1 .left) (c .before .if2 .taken)) (λ z. omega arith)
 
 refused-requires-3 : tie.Need-refused-requires-3
 refused-requires-3 c κs = search needs
@@ -40,7 +41,8 @@ returns-3 c =
     let s = now (a .bytes) in
     let x = length (now (a .stripe)) in
     let y = length (now (a .lost)) in
-    read-refused s (now (a .stripe)) (now (a .lost)) 5 (c .refused3 .result) (c .refused3 .ensures) (read-list s x y (c .before .before .before .if1 .left) (c .before .before .if2 .left) (c .before .if3 .taken)) (λ z. omega arith)
+    read-refused s (now (a .stripe)) (now (a .lost)) 5 (c .refused3 .result) (c .refused3 .ensures)
+    (read-list s x y (c .before .before .before .if1 .left) (c .before .before .if2 .left) (c .before .if3 .taken)) (λ z. omega arith)
 
 judge-requires : tie.Need-judge-requires
 judge-requires c κs = search needs
@@ -55,17 +57,24 @@ enum-known-verdict-2 : tie.Need-enum-known-verdict-2
 enum-known-verdict-2 c = search needs
 
 fill-requires : tie.Need-fill-requires
-fill-requires c κs = (sym (c .before .before .before .verdict2 .given .1) ∙ c .before .before .before .before .before .judge .ensures, (c .before .before .before .before .before .before .before .if2 .left, c .before .before .before .before .before .before .if3 .left))
+fill-requires c κs =
+    let if2 = c .before .before .before .before .before .before .before .if2 in (
+      sym (c .before .before .before .verdict2 .given .1) ∙ c .before .before .before .before .before .judge .ensures,
+      (if2 .left, c .before .before .before .before .before .before .if3 .left),
+    )
 
 returns-4 : tie.Need-returns-4
 returns-4 c =
+    let if1 = c .before .before .before .before .before .before .before .if1 in
     let a = c .before .before .before .before .before .before .before .before .before .before .before .args in
     let s = now (a .bytes) in
     let x = length (now (a .stripe)) in
     let y = length (now (a .lost)) in
     let n = refused-says s _ (sym (c .before .before .verdict .given .1) ∙ c .before .before .before .before .judge .ensures) in
     read-refused s (now (a .stripe)) (now (a .lost)) _ (c .refused4 .result) (c .refused4 .ensures)
-    (n .0 ∙ read-content s x y (c .before .before .before .before .before .before .before .if1 .left) (c .before .before .before .before .before .before .if2 .left) (c .before .before .before .before .before .if3 .left)) (n .1)
+    (n .0
+    ∙ read-content s x y (if1 .left) (c .before .before .before .before .before .before .if2 .left) (c .before .before .before .before .before .if3 .left))
+    (n .1)
 
 same-length : tie.Need-same-length
 same-length c = search needs
@@ -75,13 +84,19 @@ same-length-2 c = search needs
 
 returns-5 : tie.Need-returns-5
 returns-5 c =
+    let if1 = c .before .before .before .before .before .before .before .before .before .before .before .before .before .if1 in
+    let if2 = c .before .before .before .before .before .before .before .before .before .before .before .before .if2 in
+    let if3 = c .before .before .before .before .before .before .before .before .before .before .before .if3 in
+    let judge = c .before .before .before .before .before .before .before .before .before .before .judge in
+    let verdict2 = c .before .before .before .before .before .before .before .before .verdict2 in
     let a = c .before .before .before .before .before .before .before .before .before .before .before .before .before .before .before .before .before .args in
     let s = now (a .bytes) in
     let x = length (now (a .stripe)) in
     let y = length (now (a .lost)) in
-    let w = sym (c .before .before .before .before .before .before .before .before .verdict2 .given .1) ∙ c .before .before .before .before .before .before .before .before .before .before .judge .ensures in
+    let w = sym (verdict2 .given .1) ∙ judge .ensures in
     let f = c .before .before .before .before .fill .ensures in
-    read-accepted s (now (a .stripe)) (now (a .lost)) _ _ _ (sym (read-content s x y (c .before .before .before .before .before .before .before .before .before .before .before .before .before .if1 .left) (c .before .before .before .before .before .before .before .before .before .before .before .before .if2 .left) (c .before .before .before .before .before .before .before .before .before .before .before .if3 .left)) ∙ lawful-says s _ _ _ _ w .0) (fill-got s _ _ _ _ w) (f .0) (f .1)
+    read-accepted s (now (a .stripe)) (now (a .lost)) _ _ _ (sym (read-content s x y (if1 .left) (if2 .left) (if3 .left)) ∙ lawful-says s _ _ _ _ w .0)
+    (fill-got s _ _ _ _ w) (f .0) (f .1)
 
 pub read-record-spec : {M : Type 1} → statement M
 read-record-spec =

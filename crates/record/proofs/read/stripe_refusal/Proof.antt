@@ -14,16 +14,24 @@ returns : tie.Need-returns
 returns c = stripe-shape (c .before .before .args .s) (c .before .refusal .result) (c .before .refusal .ensures) (c .if1 .taken)
 
 add-if2 : tie.Need-add-if2
-add-if2 c = let w = allowed (c .before .before .before .args .s) (sym (c .before .before .refusal .ensures) ∙ c .before .if1 .left) in omega (arith, w .data-most, w .parity-most)
+add-if2 c =
+    let w = allowed (c .before .before .before .args .s) (sym (c .before .before .refusal .ensures) ∙ c .before .if1 .left) in
+    omega (arith, w .data-most, w .parity-most)
 
 mul-if2 : tie.Need-mul-if2
-mul-if2 c = let w = allowed (c .before .before .before .before .args .s) (sym (c .before .before .before .refusal .ensures) ∙ c .before .before .if1 .left) in omega (arith, w .stripe-length)
+mul-if2 c =
+    let w = allowed (c .before .before .before .before .args .s) (sym (c .before .before .before .refusal .ensures) ∙ c .before .before .if1 .left) in
+    omega (arith, w .stripe-length)
 
 returns-2 : tie.Need-returns-2
-returns-2 c = stripe-long (c .before .before .before .before .before .args .s) (sym (c .before .before .before .before .refusal .ensures) ∙ c .before .before .before .if1 .left) (c .if2 .taken)
+returns-2 c =
+    stripe-long (c .before .before .before .before .before .args .s)
+    (sym (c .before .before .before .before .refusal .ensures) ∙ c .before .before .before .if1 .left) (c .if2 .taken)
 
 returns-3 : tie.Need-returns-3
-returns-3 c = stripe-lawful (c .before .before .before .before .before .args .s) (sym (c .before .before .before .before .refusal .ensures) ∙ c .before .before .before .if1 .left) (c .if2 .left)
+returns-3 c =
+    stripe-lawful (c .before .before .before .before .before .args .s)
+    (sym (c .before .before .before .before .refusal .ensures) ∙ c .before .before .before .if1 .left) (c .if2 .left)
 
 pub stripe-refusal-spec : {M : Type 1} → statement M
 stripe-refusal-spec =

@@ -21,11 +21,12 @@ same-length-2 c = search needs
 
 returns-2 : tie.Need-returns-2
 returns-2 c =
+    let if1 = c .before .before .before .before .before .before .before .before .before .if1 in
     let start = c .before .before .before .before .before .before .before .before .before .before .before .before .before .before in
     let a = start .args in
     let r = c .before .before .before .before .before .before .read-record in
     read-refused (now (a .«record»)) (now (a .stripe)) (now (a .lost)) (now (a .numbers))
-    (c .before .before .before .before .before .before .before .before .before .if1 .left) (r .result) _ _ (r .ensures .0) (r .ensures .1 .0) (r .ensures .1 .1) (c .if2 .taken)
+    (if1 .left) (r .result) _ _ (r .ensures .0) (r .ensures .1 .0) (r .ensures .1 .1) (c .if2 .taken)
 
 put-numbers-requires : tie.Need-put-numbers-requires
 put-numbers-requires c κs = search needs
@@ -41,11 +42,13 @@ same-length-5 c = search needs
 
 returns-3 : tie.Need-returns-3
 returns-3 c =
-    let start = c .before .before .before .before .before .before .before .before .before .before .before .before .before .before .before .before .before .before in
+    let earlier = c .before .before .before .before .before .before .before .before .before .before in
+    let if1 = earlier .before .before .before .if1 in
+    let start = earlier .before .before .before .before .before .before .before .before in
     let a = start .args in
     let r = c .before .before .before .before .before .before .before .before .before .before .read-record in
     read-done (now (a .«record»)) (now (a .stripe)) (now (a .lost)) (now (a .numbers))
-    (c .before .before .before .before .before .before .before .before .before .before .before .before .before .if1 .left) (r .result) _ _ (r .ensures .0) (r .ensures .1 .0) (r .ensures .1 .1)
+    (if1 .left) (r .result) _ _ (r .ensures .0) (r .ensures .1 .0) (r .ensures .1 .1)
     (c .before .before .before .before .if2 .left) _ (c .before .before .put-numbers .ensures)
 
 pub shelf-read-record-spec : {M : Type 1} → statement M

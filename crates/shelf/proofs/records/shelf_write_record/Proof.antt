@@ -20,8 +20,10 @@ returns : tie.Need-returns
 returns c =
     let a = c .before .before .before .before .before .before .before .before .before .before .args in
     let w = c .before .before .before .before .write-record in
-    subst (λ (s : Shape). Wrote s (now (a .stripe)) (now (a .lost)) (now (a .out)) (now (a .length)) (w .result .number) (w .last .1 .1 .1 .0) (now (a .length)))
-    (c .before .before .before .before .before .before .shape-of .ensures) (write-refused _ (now (a .stripe)) (now (a .lost)) (now (a .out)) (now (a .length)) (w .result) _
+    subst (λ (s : Shape). Wrote s (now (a .stripe)) (now (a .lost)) (now (a .out)) (now (a .length)) (w .result .number) (w .last .1 .1 .1 .0)
+    (now (a .length)))
+    (c .before .before .before .before .before .before .shape-of .ensures)
+    (write-refused _ (now (a .stripe)) (now (a .lost)) (now (a .out)) (now (a .length)) (w .result) _
     (w .ensures .0) (w .ensures .1) (c .if1 .taken))
 
 same-length-2 : tie.Need-same-length-2
@@ -32,7 +34,8 @@ returns-2 c =
     let a = c .before .before .before .before .before .before .before .before .before .before .args in
     let w = c .before .before .before .before .write-record in
     subst (λ (s : Shape). Wrote s (now (a .stripe)) (now (a .lost)) (now (a .out)) (now (a .length)) 0 (w .last .1 .1 .1 .0) (w .result .length))
-    (c .before .before .before .before .before .before .shape-of .ensures) (write-done _ (now (a .stripe)) (now (a .lost)) (now (a .out)) (now (a .length)) (w .result) _
+    (c .before .before .before .before .before .before .shape-of .ensures)
+    (write-done _ (now (a .stripe)) (now (a .lost)) (now (a .out)) (now (a .length)) (w .result) _
     (w .ensures .0) (w .ensures .1) (c .if1 .left))
 
 pub shelf-write-record-spec : {M : Type 1} → statement M

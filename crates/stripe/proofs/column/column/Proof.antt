@@ -25,17 +25,24 @@ part-result-end c = search needs
 returns : tie.Need-returns
 returns c = sym (column-refused _ _ _ _ (λ e. c .before .if1 .taken (c .before .before .lent-refusal .ensures ∙ e)))
 
-passed : (c : tie.Else1) → lentRefusal (c .before .before .before .before .args .s) (length (now (c .before .before .before .before .args .«data»))) (length (now (c .before .before .before .before .args .parity))) ≡ 0
+passed : (c : tie.Else1) → lentRefusal (c .before .before .before .before .args .s) (length (now (c .before .before .before .before .args .«data»)))
+    (length (now (c .before .before .before .before .args .parity))) ≡ 0
 passed c = sym (c .before .lent-refusal .ensures) ∙ c .if1 .left
 
 part-requires : tie.Need-part-requires
-part-requires c κs = let a = c .before .before .before .before .before .args in let e = lent (a .s) (length (now (a .«data»))) (length (now (a .parity))) (passed (c .before)) in within (a .at) (a .s .k) (a .s .l) (length (now (a .«data»))) (c .if2 .taken) (e .data-long)
+part-requires c κs =
+    let a = c .before .before .before .before .before .args in
+    let e = lent (a .s) (length (now (a .«data»))) (length (now (a .parity))) (passed (c .before)) in
+    within (a .at) (a .s .k) (a .s .l) (length (now (a .«data»))) (c .if2 .taken) (e .data-long)
 
 returns-2 : tie.Need-returns-2
 returns-2 c = c .part .ensures ∙ sym (column-data _ _ _ _ (passed (c .before .before)) (c .before .if2 .taken))
 
 part-requires-2 : tie.Need-part-requires-2
-part-requires-2 c κs = let a = c .before .before .before .before .before .before .args in let e = lent (a .s) (length (now (a .«data»))) (length (now (a .parity))) (passed (c .before .before)) in within (a .at - a .s .k) (a .s .r) (a .s .l) (length (now (a .parity))) (c .if3 .taken) (e .parity-long)
+part-requires-2 c κs =
+    let a = c .before .before .before .before .before .before .args in
+    let e = lent (a .s) (length (now (a .«data»))) (length (now (a .parity))) (passed (c .before .before)) in
+    within (a .at - a .s .k) (a .s .r) (a .s .l) (length (now (a .parity))) (c .if3 .taken) (e .parity-long)
 
 returns-3 : tie.Need-returns-3
 returns-3 c = c .part2 .ensures ∙ sym (column-parity _ _ _ _ (passed (c .before .before .before)) (omega arith) (omega arith))

@@ -24,7 +24,10 @@ part-result-end : tie.Need-part-result-end
 part-result-end c = search needs
 
 returns : tie.Need-returns
-returns c = ap (λ (n : ℕ). take n (drop (c .before .args .c * c .before .args .l) (now (c .before .args .b)))) (add-sub-cancel-left (c .before .args .c * c .before .args .l) (c .before .args .l))
+returns c =
+    let start = c .before in
+    ap (λ (n : ℕ). take n (drop (start .args .c * start .args .l) (now (start .args .b))))
+    (add-sub-cancel-left (start .args .c * start .args .l) (start .args .l))
 
 pub part-spec : {M : Type 1} → statement M
 part-spec =

@@ -10,7 +10,8 @@ use Rattle.syndromes.proofs.apart.below.Statement.{statement}
 use Rattle.syndromes.proofs.apart.below.Tie as tie
 
 abbrev Inv-loop : tie.InvT-loop
-Inv-loop stripe k l x from p row0₀ row1₀ i₀ o₀ row0 row1 i o = (i ≤ x) × (o ≡ i * l + from) × Risen stripe k l from 64 64 0 i row0 × Risen stripe k l from 64 64 1 i row1
+Inv-loop stripe k l x from p row0₀ row1₀ i₀ o₀ row0 row1 i o =
+    (i ≤ x) × (o ≡ i * l + from) × Risen stripe k l from 64 64 0 i row0 × Risen stripe k l from 64 64 1 i row1
 
 abbrev μ-loop : tie.MeasureT-loop
 μ-loop stripe k l x from p row0₀ row1₀ i₀ o₀ row0 row1 i o = x - i
@@ -94,7 +95,11 @@ loop-again c =
     )
 
 returns : tie.Need-returns Inv-loop μ-loop
-returns c = (done _ _ _ _ _ _ 0 (c .before .loop .i) _ _ (c .before .loop .inv .0) (c .loop-test .left) (c .before .loop .inv .2), done _ _ _ _ _ _ 1 (c .before .loop .i) _ _ (c .before .loop .inv .0) (c .loop-test .left) (c .before .loop .inv .3))
+returns c =
+    let loop = c .before .loop in (
+      done _ _ _ _ _ _ 0 (loop .i) _ _ (loop .inv .0) (c .loop-test .left) (loop .inv .2),
+      done _ _ _ _ _ _ 1 (loop .i) _ _ (loop .inv .0) (c .loop-test .left) (loop .inv .3),
+    )
 
 pub below-spec : {M : Type 1} → statement M
 below-spec =

@@ -34,9 +34,11 @@ encode-requires c κs = search needs
 
 add-below-requires : tie.Need-add-below-requires
 add-below-requires c κs =
+    let encode = c .before .before .before .encode in
     let s = c .before .before .before .before .before .before .before .before .before in
     let n = c .before .before .before .before .before .before .new .ensures in
-    let up = encoded-upper (c .before .before .before .before .before .before .new .result) _ _ (c .before .before .before .encode .last .1 .1 .0) _ _ _ _ (s .pre) (n .0) (n .1 .0) (n .1 .1 .0) (n .1 .1 .1) (c .before .before .before .encode .ensures .1) in
+    let up = encoded-upper (c .before .before .before .before .before .before .new .result) _ _ (encode .last .1 .1 .0) _ _ _ _ (s .pre) (n .0) (n .1 .0)
+    (n .1 .1 .0) (n .1 .1 .1) (encode .ensures .1) in
     (subst (Parted _ _ _ _ _) (s .pre .room ∙ sym (up .long)) (s .pre), up)
 
 same-length : tie.Need-same-length

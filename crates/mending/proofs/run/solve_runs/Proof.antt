@@ -143,8 +143,9 @@ solve-slots-requires c κs =
     let is = ap (less (a .p .pivot)) (w .posed .front) in
     let bs = powers-length (a .s) f (a .p) (w .posed) (a .p .step) _ (points .ensures .1 ∙ ap (powers (a .p .step)) is) in
     let ws = powers-length (a .s) f (a .p) (w .posed) (a .p .first) _ (weights .ensures .1 ∙ ap (powers (a .p .first)) is) in
-    let below = omega (arith, c .before .before .before .before .before .before .before .loop-test .taken, runs′ .ensures) in
-    let rows = run-spaced (a .s) (a .p) (loop .b) (run-length .result) _ f (w .posed) (run-length .ensures) below (w .long) in
+    let test = c .before .before .before .before .before .before .before .loop-test in
+    let rows = run-spaced (a .s) (a .p) (loop .b) (run-length .result) _ f (w .posed) (run-length .ensures)
+    (omega (arith, test .taken, runs′ .ensures)) (w .long) in
     (spaced-as _ _ _ _ _ _ _ (sym bs) (sym (k .long ∙ loop .inv .1 .0)) rows, ws ∙ sym bs)
 
 add-b : tie.Need-add-b Inv-loop μ-loop

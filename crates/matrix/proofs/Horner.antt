@@ -2,7 +2,7 @@
 use mathlib.Core.Path.{_≡_, refl, sym, ap, ap₂, _∙_}
 use mathlib.Core.Bool.{Bool}
 use mathlib.Core.List.{List, [], _∷_}
-use Prim.Native.Nat.{ℕ, zero, suc, _+_, _/_, _%_, _<_}
+use Prim.Native.Nat.{ℕ, zero, suc, _+_, _-_, _/_, _%_, _<_, _≤_}
 use native.Mathlib.Nat.{suc-inj, suc-ne-zero, mod-eq-of-lt, add-suc, add-zero as ℕ-add-zero}
 use native.Mathlib.Omega.{arith}
 use lib.Dec.{eqb, eqb→eq, lit<}
@@ -127,3 +127,11 @@ fall-none b f = refl
 pub fall-more : (n b : ℕ) (f : ℕ → ℕ) → fall (suc n) b f ≡ 2 ⊗ fall n (suc b) f ⊕ f b
 unfolding fall
 fall-more n b f = refl
+
+-- one bit more, of eight
+pub fall-turn : (b : ℕ) (f : ℕ → ℕ) → 0 < b → b ≤ 8 → 2 ⊗ fall (8 - b) b f ⊕ f (b - 1) ≡ fall (8 - (b - 1)) (b - 1) f
+fall-turn b f h l =
+    ap (λ (x : ℕ). 2 ⊗ fall (8 - b) x f ⊕ f (b - 1)) (omega arith) ∙ sym (fall-more (8 - b) (b - 1) f) ∙ ap (λ (x : ℕ). fall x (b - 1) f) (omega arith)
+
+pub fall-done : (b : ℕ) (f : ℕ → ℕ) → b ≤ 0 → fall (8 - b) b f ≡ fall 8 0 f
+fall-done b f h = let z : b ≡ 0 = omega arith in ap (λ (x : ℕ). fall (8 - x) x f) z

@@ -32,6 +32,9 @@ part-onto f xs b ys at n fits long is =
     ys-long : length ys ≡ n
     ys-long = ap length is ∙ onto-length f _ b ∙ part-length xs at n fits
 
+pub part-same : (f : ℕ → ℕ → ℕ) (xs b ys : List ℕ) (at n w : ℕ) → n ≡ w → Part f xs at n b ys → Part f xs at w b ys
+part-same f xs b ys at n w e h = subst (λ (k : ℕ). Part f xs at k b ys) e h
+
 -- ---- widening
 
 pub widened-start : (g have : ℕ) (d t : List ℕ) → Widened g have 0 d t t

@@ -12,8 +12,8 @@ use Rattle.field.proofs.Cases.{below-or-from}
 use Rattle.lanes.specs.Lanes.{onto}
 use Rattle.lanes.proofs.Onto.{onto-at}
 use Rattle.lanes.proofs.Parts.{part-length, part-at}
-use Rattle.matrix.specs.Sums.{sumTo, index, fall, inGroup, Summed, GroupIn, GroupsIn, ZeroFirst, picked, rowValue}
-use Rattle.matrix.proofs.Horner.{sum-none, sum-more, fall-more}
+use Rattle.matrix.specs.Sums.{sumTo, index, inGroup, Summed, GroupIn, GroupsIn, ZeroFirst, picked}
+use Rattle.matrix.proofs.Horner.{sum-none, sum-more}
 use Rattle.matrix.proofs.Groups.{index-small, group-most}
 
 -- ---- tables
@@ -92,16 +92,3 @@ module _ (t es : List ℕ) (row : ℕ) where
           ap (λ (x : List ℕ). getD x q 0) is
           ∙ onto-at (λ (x y : ℕ). 2 ⊗ x ⊕ y) y₀ _ q (omega arith) (omega (arith, part-length t o 64 fits))
           ∙ ap (λ (x : ℕ). 2 ⊗ getD y₀ q 0 ⊕ x) (part-at t o 64 q l ∙ ap (λ (x : ℕ). getD t x 0) place)
-
-  -- ---- all bits
-
-  pub row-turn : (n b q : ℕ) → 0 < b → b ≤ 8
-      → 2 ⊗ fall (8 - b) b (λ d. picked t es (row + d * 8) n q) ⊕ picked t es (row + (b - 1) * 8) n q
-      ≡ fall (8 - (b - 1)) (b - 1) (λ d. picked t es (row + d * 8) n q)
-  row-turn n b q h l =
-      let f : ℕ → ℕ = λ d. picked t es (row + d * 8) n q in
-      ap (λ (x : ℕ). 2 ⊗ fall (8 - b) x f ⊕ f (b - 1)) (omega arith) ∙ sym (fall-more (8 - b) (b - 1) f) ∙ ap (λ (x : ℕ). fall x (b - 1) f) (omega arith)
-
-  pub row-done : (n b q : ℕ) → b ≤ 0 → fall (8 - b) b (λ d. picked t es (row + d * 8) n q) ≡ rowValue t es row n q
-  unfolding rowValue
-  row-done n b q h = let z : b ≡ 0 = omega arith in ap (λ (x : ℕ). fall (8 - x) x (λ d. picked t es (row + d * 8) n q)) z

@@ -1,13 +1,16 @@
 // A matrix of bytes times columns, by sums of groups. For a block of 64 places the 16 sums of each group of four columns are formed
 // once. A row is then Horner's rule over the eight bits of its constants: double, and add of each group the sum whose number is that
 // bit of the group's four constants. No product is ever formed. Columns are taken in slabs of 32, whose sums fit a local table.
-// Throughout, t is that table, and es holds the numbers of the sums, by row, bit and group.
+// Throughout, t is that table, and es holds the numbers of the sums, by row, bit and group. One row alone is formed in `one`.
+mod one;
+
 use lanes::add;
 use lanes::copy;
 use lanes::shorter;
+use one::one_row;
 use steps::double_add;
 ghost use mathlib.Core.Path.{_≡_};
-ghost use mathlib.Core.Bool.{cond};
+ghost use mathlib.Core.Bool.{true, cond};
 ghost use Prim.Native.Nat.{ℕ, _+_, _*_, _/_, _%_, _<_, _≤_};
 ghost use lib.ListN.{length, getD};
 ghost use Rattle.field.specs.Field.{_⊕_, _⊗_};
@@ -29,7 +32,7 @@ fn part(s: &[u8], at: usize, w: usize) -> [u8; 64]
 }
 
 // The same; of a whole block by a literal length.
-fn block(s: &[u8], at: usize, w: usize) -> [u8; 64]
+pub(crate) fn block(s: &[u8], at: usize, w: usize) -> [u8; 64]
     requires { ⌜ (at + w ≤ length (now s)) × (w ≤ 64) ⌝ }
     ensures { λ v. ⌜ ((q : ℕ) → q < w → getD v q 0 ≡ getD (now (s .entry)) (at + q) 0) ⌝ }
 {
@@ -40,7 +43,7 @@ fn block(s: &[u8], at: usize, w: usize) -> [u8; 64]
 }
 
 // The first w bytes of b, from `at` on.
-fn put(out: &mut [u8], at: usize, w: usize, b: &[u8; 64])
+pub(crate) fn put(out: &mut [u8], at: usize, w: usize, b: &[u8; 64])
     requires { ⌜ (at + w ≤ length (now out)) × (w ≤ 64) ⌝ }
     ensures { λ _. ⌜ Part (λ (x y : ℕ). y) (now (out .entry)) at w (now (b .entry)) (now (out .exit)) ⌝ }
 {
@@ -207,7 +210,7 @@ fn bit_step(y: &mut [u8; 64], t: &[u8], es: &[u8], row: usize, n: usize)
 }
 
 // A byte as a wider number.
-fn wide(x: u8) -> usize
+pub(crate) fn wide(x: u8) -> usize
     ensures { λ v. ⌜ v ≡ x ⌝ }
 {
     x as usize
@@ -395,6 +398,16 @@ fn fits(
     c == rows * count
 }
 
+// Whether there is one row only, and so long that its lists are worth making.
+fn alone(rows: usize, count: usize) -> bool
+    ensures { λ v. ⌜ (v ≡ true → rows ≡ 1) ⌝ }
+{
+    if rows != 1 {
+        return false;
+    }
+    255 < count
+}
+
 // The rows of the matrix times m columns, at the `count` places from `from` on: the columns lie `stride` apart, so byte q of column i
 // stands at from + i * stride + q. Where the numbers do not fit, what is there stays.
 pub fn apply(
@@ -420,6 +433,10 @@ pub fn apply(
         columns.len(),
         out.len(),
     ) {
+        return;
+    }
+    if alone(rows, count) {
+        one_row(matrix, columns, from, stride, count, out);
         return;
     }
     fill(rows, m, matrix, columns, from, stride, count, out);

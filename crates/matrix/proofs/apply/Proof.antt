@@ -1,10 +1,14 @@
 -- `apply` meets its contract: numbers that do not fit, or all columns at every place.
-use mathlib.Core.Path.{_≡_, sym, _∙_}
+use Prim.Native.Nat.{ℕ, _*_}
+use mathlib.Core.Path.{_≡_, sym, ap, subst, _∙_}
 use mathlib.Core.Bool.{true}
+use native.Mathlib.Omega.{arith}
 use lib.ListN.{length}
 use borrow.Author.Needs.{needs}
 use borrow.Author.Tests.{not-true, not-false}
 use Rattle.matrix.specs.Matrix.{matrixFits}
+use Rattle.matrix.specs.Sums.{Inside}
+use Rattle.matrix.proofs.Listing.{held-one}
 use Rattle.matrix.proofs.Shape.{Lengths, lengths-fit, all-inside, becomes-left, becomes-applied}
 use Rattle.matrix.proofs.apply.Statement.{statement}
 use Rattle.matrix.proofs.apply.Tie as tie
@@ -23,21 +27,54 @@ fits-requires c κs = search needs
 returns : tie.Need-returns
 returns c = becomes-left _ _ _ _ _ _ _ _ (sym (c .before .fits2 .ensures) ∙ not-true _ (c .if1 .taken))
 
-fill-requires : tie.Need-fill-requires
-fill-requires c κs =
-    let f = known (c .before) in
-    let a = c .before .before .before .before .before .before .args in
-    (f .numbers .rows-most, (f .matrix, (all-inside _ _ _ _ (a .columns .now) (f .columns), f .out)))
+alone-requires : tie.Need-alone-requires
+alone-requires c κs = search needs
+
+one-row-requires : tie.Need-one-row-requires
+one-row-requires c κs =
+    let t = c .before .before .before in
+    let f = known t in
+    let a = t .before .before .before .before .before .args in
+    let one = c .before .before .alone .ensures (c .before .if2 .taken) in
+    let same : length (a .matrix .now) ≡ a .m = omega (arith, f .matrix, ap (λ (x : ℕ). x * a .m) one) in (
+      omega (arith, f .numbers .columns-some),
+      (
+        omega (arith, f .numbers .columns-most),
+        (
+          subst (λ (x : ℕ). Inside (a .columns .now) (a .from) (a .stride) x (a .count)) (sym same) (all-inside _ _ _ _ (a .columns .now) (f .columns)),
+          omega (arith, f .out, ap (λ (x : ℕ). x * a .count) one),
+        ),
+      ),
+    )
 
 same-length : tie.Need-same-length
 same-length c = search needs
 
 returns-2 : tie.Need-returns-2
 returns-2 c =
-    let t = c .before .before .before .before in
+    let t = c .before .before .before .before .before .before in
+    let qs = c .before .before .one-row .last .1 .1 .1 .1 .1 .0 in
+    let same : length qs ≡ length (t .before .before .before .before .before .args .out .now) = search needs in
+    let one = c .before .before .before .before .before .alone .ensures (c .before .before .before .before .if2 .taken) in
+    let held = held-one _ _ _ _ _ _ _ _ one (known t .matrix) (c .before .before .one-row .ensures) in
+    becomes-applied _ _ _ _ _ _ _ _ (fits t) qs (same ∙ known t .out) (known t .numbers .columns-some) held
+
+fill-requires : tie.Need-fill-requires
+fill-requires c κs =
+    let f = known (c .before .before .before) in
+    let a = c .before .before .before .before .before .before .before .before .args in
+    (f .numbers .rows-most, (f .matrix, (all-inside _ _ _ _ (a .columns .now) (f .columns), f .out)))
+
+same-length-2 : tie.Need-same-length-2
+same-length-2 c = search needs
+
+returns-3 : tie.Need-returns-3
+returns-3 c =
+    let t = c .before .before .before .before .before .before in
     let qs = c .before .before .fill .last .1 .1 .1 .1 .1 .1 .1 .0 in
     let same : length qs ≡ length (t .before .before .before .before .before .args .out .now) = search needs in
     becomes-applied _ _ _ _ _ _ _ _ (fits t) qs (same ∙ known t .out) (known t .numbers .columns-some) (c .before .before .fill .ensures)
 
 pub apply-spec : {M : Type 1} → statement M
-apply-spec = tie.close (tie.spec fits-requires returns fill-requires same-length returns-2)
+apply-spec =
+    tie.close (tie.spec fits-requires returns alone-requires one-row-requires same-length returns-2 fill-requires same-length-2 returns-3)

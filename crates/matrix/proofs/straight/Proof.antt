@@ -4,9 +4,8 @@ use mathlib.Core.Path.{_≡_, ap, sym, _∙_}
 use native.Mathlib.Omega.{arith}
 use lib.ListN.{getD}
 use Rattle.field.specs.Field.{_⊕_, _⊗_}
-use Rattle.matrix.specs.Sums.{fall, picked}
-use Rattle.matrix.proofs.Turns.{row-turn, row-done}
-use Rattle.matrix.proofs.Horner.{fall-none}
+use Rattle.matrix.specs.Sums.{fall, picked, rowValue}
+use Rattle.matrix.proofs.Horner.{fall-none, fall-turn, fall-done}
 use borrow.Author.Needs.{needs}
 use Rattle.matrix.proofs.straight.Statement.{statement}
 use Rattle.matrix.proofs.straight.Tie as tie
@@ -57,13 +56,14 @@ loop-again c =
     let n = s .args .n in (
       search needs,
       λ q h. c .bit-step .ensures q h ∙ ap (λ (x : ℕ). 2 ⊗ x ⊕ picked t es (row + (at .b - 1) * 8) n q) (at .inv .1 q h)
-          ∙ row-turn t es row n (at .b) q (c .before .before .loop-test .taken) (at .inv .0),
+          ∙ fall-turn (at .b) (λ d. picked t es (row + d * 8) n q) (c .before .before .loop-test .taken) (at .inv .0),
     )
 
 returns : tie.Need-returns Inv-loop μ-loop
+unfolding rowValue
 returns c =
     let a = c .before .before .before .before .before .args in
-    λ q h. c .before .loop .inv .1 q h ∙ row-done (a .t .now) (a .es .now) (a .row) (a .n) (c .before .loop .b) q (c .loop-test .left)
+    λ q h. c .before .loop .inv .1 q h ∙ fall-done (c .before .loop .b) (λ d. picked (a .t .now) (a .es .now) (a .row + d * 8) (a .n) q) (c .loop-test .left)
 
 pub straight-spec : {M : Type 1} → statement M
 straight-spec =

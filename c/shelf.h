@@ -37,7 +37,7 @@
  *   - no two buffers of a call overlap, and nobody else writes them during the call;
  *   - a pointer beside a length of 0 may be anything, NULL too, and is not followed.
  *
- * An example with columns of one byte (c/fold_month.c is a longer one, which runs):
+ * An example with columns of one byte (c/fold_month.c and c/fold_files.c are longer ones, which run):
  *
  *   uint8_t a[4] = {1, 2}, b[4] = {3, 4};                     two stripes of 2 + 2 columns
  *   shelf_encode(2, 2, 0, 1, a, 2, a + 2, 2);                 SHELF_OK: a is 01 02 03 05

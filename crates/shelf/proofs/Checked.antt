@@ -9,6 +9,7 @@ use borrow.Author.Tests.{eqb-true, eqb-false}
 use lib.Dec.{eqb}
 use lib.ListN.{length, getD}
 use Rattle.stripe.specs.declared.Shape.{Shape}
+use Rattle.stripe.specs.Shape.{mostParity, mostLength}
 use Rattle.stripe.specs.Column.{lentRefusal}
 use Rattle.stripe.specs.Stripe.{parity}
 use Rattle.stripe.proofs.Allowed.{allowed}
@@ -36,7 +37,7 @@ module _ (s : Shape) (ds ps : List ℕ) (i p : ℕ) (h : At i p ≡ firstWrong s
   values : i ∷ p ∷ [] ≡ valuesOf (firstWrong s ds ps)
   values = ap valuesOf h
 
-  pub named-within : (i ≤ 3) × (p ≤ 4096)
+  pub named-within : (i ≤ mostParity) × (p ≤ mostLength)
   named-within = go (eqb (lentRefusal s (length ds) (length ps)) 0) (agree ps (parity s ds)) refl refl
     where
       first : ℕ
@@ -45,7 +46,7 @@ module _ (s : Shape) (ds ps : List ℕ) (i p : ℕ) (h : At i p ≡ firstWrong s
       none : [] ≡ valuesOf (firstWrong s ds ps) → ⊥
       none e = suc-ne-zero 1 (ap length (values ∙ sym e))
 
-      go : (a b : Bool) → eqb (lentRefusal s (length ds) (length ps)) 0 ≡ a → agree ps (parity s ds) ≡ b → (i ≤ 3) × (p ≤ 4096)
+      go : (a b : Bool) → eqb (lentRefusal s (length ds) (length ps)) 0 ≡ a → agree ps (parity s ds) ≡ b → (i ≤ mostParity) × (p ≤ mostLength)
       go false b d e = absurd (none (ap valuesOf (sym (wrong-refused s ds ps (eqb-false _ _ d)))))
       go true true d e = absurd (none (ap valuesOf (sym (wrong-nowhere s ds ps (eqb-true _ _ d) e))))
       go true false d e =

@@ -30,14 +30,17 @@ enum { OURS, ISAL, JERASURE, ROOF, NATIVE_OURS, SIDES };
 static const struct calls {
     uint32_t (*encode)(uint64_t k, uint64_t r, uint64_t t, uint64_t l, const uint8_t *data, size_t data_len, uint8_t *parity, size_t parity_len);
     uint32_t (*mend)(uint64_t k, uint64_t r, uint64_t t, uint64_t l, uint8_t *stripe, size_t stripe_len, const uint8_t *lost, size_t lost_len);
+    uint32_t (*check)(uint64_t k, uint64_t r, uint64_t t, uint64_t l, const uint8_t *data, size_t data_len, const uint8_t *parity, size_t parity_len,
+                      uint32_t *column, uint32_t *place);
     uint32_t (*fold)(uint64_t k, uint64_t r, uint64_t t, uint64_t l, uint64_t stripes, uint64_t f, const uint8_t *read, size_t read_len, uint8_t *parity,
                      size_t parity_len);
-} shipped = {shelf_encode, shelf_mend, shelf_fold}, *calls = &shipped;
+} shipped = {shelf_encode, shelf_mend, shelf_check, shelf_fold}, *calls = &shipped;
 #ifdef NATIVE
 uint32_t native_shelf_encode(uint64_t, uint64_t, uint64_t, uint64_t, const uint8_t *, size_t, uint8_t *, size_t);
 uint32_t native_shelf_mend(uint64_t, uint64_t, uint64_t, uint64_t, uint8_t *, size_t, const uint8_t *, size_t);
+uint32_t native_shelf_check(uint64_t, uint64_t, uint64_t, uint64_t, const uint8_t *, size_t, const uint8_t *, size_t, uint32_t *, uint32_t *);
 uint32_t native_shelf_fold(uint64_t, uint64_t, uint64_t, uint64_t, uint64_t, uint64_t, const uint8_t *, size_t, uint8_t *, size_t);
-static const struct calls native_calls = {native_shelf_encode, native_shelf_mend, native_shelf_fold}, *const native = &native_calls;
+static const struct calls native_calls = {native_shelf_encode, native_shelf_mend, native_shelf_check, native_shelf_fold}, *const native = &native_calls;
 #else
 static const struct calls *const native = NULL;
 #endif
@@ -249,6 +252,12 @@ static void our_mend(void)
     failed |= calls->mend((uint64_t)K, (uint64_t)R, (uint64_t)T, (uint64_t)L, whole, (size_t)((K + R) * L), lost_bytes, (size_t)(2 * lost_count)) != 0;
 }
 
+static void our_check(void)
+{
+    uint32_t column, place;
+    failed |= calls->check((uint64_t)K, (uint64_t)R, (uint64_t)T, (uint64_t)L, whole, (size_t)(K * L), whole + K * L, (size_t)(R * L), &column, &place) != 0;
+}
+
 /* The weight of data column c, run d, in the column at position p, run b. */
 static uint8_t weight(int p, int b, int c, int d)
 {
@@ -309,7 +318,7 @@ static struct result mend(const char *what, int k, int r, int t, int l, int firs
 {
     shape(k, r, t, l);
     covered = (size_t)((k + r) * l);
-    return stripe(what, our_mend, first, count);
+    return stripe(what, count == 0 ? our_check : our_mend, first, count);
 }
 
 static struct result encode(int k, int r, int t, int l) { return encode_as(t == 0 ? "encode" : "encode prepared", k, r, t, l); }

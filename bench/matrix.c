@@ -1,4 +1,4 @@
-/* Times `matrix::apply` (through bench/timed) against ISA-L's product of the same matrix and columns: batches take turns, and the medians
+/* Times `matrix::apply` (through a crate that bench/run writes) against ISA-L's product of the same matrix and columns: batches take turns, and the medians
  * of their CPU times count. Where bench/run gives it the same code compiled for the machine at hand, that takes turns too. ISA-L's
  * tables are made before the clock starts; ours works out the numbers of its sums in every call. First random matrices times random
  * windows of columns must give ISA-L's bytes. Exit: 0, or 1 for a difference. */

@@ -1,3 +1,4 @@
+-- `logarithm` meets its contract: the table's rule at the entry read.
 use borrow.Author.Needs.{needs}
 use Rattle.field.proofs.Mul.{log-rules}
 use Rattle.field.proofs.Tables.{logarithms}

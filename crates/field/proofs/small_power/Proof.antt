@@ -1,3 +1,4 @@
+-- `small_power` meets its contract: the table's rule at the entry read.
 use borrow.Author.Needs.{needs}
 use Rattle.field.proofs.Mul.{power-at}
 use Rattle.field.proofs.Tables.{powers}

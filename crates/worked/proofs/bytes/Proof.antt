@@ -1,3 +1,4 @@
+-- `bytes` ends: each turn prints one byte more.
 use Prim.Native.Nat.{_-_, _≤_}
 use borrow.Author.Needs.{needs}
 use lib.ListN.{length}

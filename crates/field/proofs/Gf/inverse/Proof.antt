@@ -1,3 +1,4 @@
+-- `Gf::inverse` meets its contract: of zero it is zero, and any other times the power of what its logarithm lacks of 255 is 1.
 use borrow.Author.Needs.{needs}
 use mathlib.Core.Path.{sym, ap, _∙_}
 use Rattle.field.specs.Field.{inverseOf}

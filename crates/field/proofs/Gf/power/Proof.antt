@@ -1,3 +1,4 @@
+-- `Gf::power` meets its contract: powers come round after 255.
 use borrow.Author.Needs.{needs}
 use mathlib.Core.Path.{_∙_}
 use Rattle.field.proofs.Mul.{gpow-mod}

@@ -1,3 +1,4 @@
+-- `Gf::product` meets its contract: a product with zero is zero, and any other is the power of the summed logarithms.
 use borrow.Author.Needs.{needs}
 use mathlib.Core.Path.{_∙_}
 use Rattle.field.proofs.Mul.{product-left, product-right, product-logs}

@@ -1,3 +1,4 @@
+-- `Gf::sum` meets its contract: the sum is the exclusive or.
 use borrow.Author.Needs.{needs}
 use Rattle.field.specs.Field.{_⊕_}
 use Rattle.field.proofs.Gf.sum.Statement.{statement}

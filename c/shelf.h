@@ -143,8 +143,8 @@ uint32_t shelf_encode(uint64_t k, uint64_t r, uint64_t t, uint64_t l,
  * agrees with every survivor. What the lost columns held counts for nothing. Returns 1, 2, 5 (an odd lost_len too), 6, 7 or 8, in
  * this order: nothing is written.
  *
- * With nothing lost, 0 says that the stripe is a codeword and 8 that it is none. With exactly r lost 8 never comes: any k columns
- * agree with some codeword, so a stale one among them can't show.
+ * With nothing lost, 0 says that the stripe is a codeword and 8 that it is none; shelf_check does that sooner, and says where. With
+ * exactly r lost 8 never comes: any k columns agree with some codeword, so a stale one among them can't show.
  *
  * Stack: less than 16,384 bytes.
  */

@@ -3,6 +3,7 @@ pub mod Below
 pub mod Cases
 pub mod Tables
 pub mod Mul
+pub mod Shifting
 pub mod Powers
 pub mod Bytes
 pub mod Over

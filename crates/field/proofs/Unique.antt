@@ -19,6 +19,8 @@ use Rattle.field.proofs.Gf.inverse as inverse
 use Rattle.field.proofs.Gf.inverse.Reads as inverse-reads
 use Rattle.field.proofs.Gf.power as power
 use Rattle.field.proofs.Gf.power.Reads as power-reads
+use Rattle.field.proofs.double as double
+use Rattle.field.proofs.double.Reads as double-reads
 
 told : (v w : Gf) → v .0 ≡ w .0 → v ≡ w
 told v w e = ap (λ (b : ℕ). record { 0 = b }) e
@@ -50,3 +52,7 @@ gf-inverse-unique κs a r r′ s s′ p q = told r r′ (p ∙ sym q)
 pub gf-power-unique : (κs : Lfts 0) (a : ArgsD power.signature κs) (r r′ : ResD power.signature κs) (s s′ : AtExit power.ended κs)
     → power-reads.Post κs a r s → power-reads.Post κs a r′ s′ → r ≡ r′
 gf-power-unique κs a r r′ s s′ p q = told r r′ (p ∙ sym q)
+
+pub double-unique : (κs : Lfts 0) (a : ArgsD double.signature κs) (r r′ : ResD double.signature κs) (s s′ : AtExit double.ended κs)
+    → double-reads.Post κs a r s → double-reads.Post κs a r′ s′ → r ≡ r′
+double-unique κs a r r′ s s′ p q = p ∙ sym q

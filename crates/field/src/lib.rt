@@ -78,6 +78,16 @@ impl Gf {
     }
 }
 
+// x^8, as which the bit of x^7 comes back when a byte is doubled: the polynomial without its highest term.
+const REDUCTION: u8 = (Gf::POLYNOMIAL - 256) as u8;
+
+// Twice x.
+pub fn double(x: u8) -> u8
+    ensures { λ v. ⌜ v ≡ 2 ⊗ x ⌝ }
+{
+    ((x % 128) * 2) ^ ((x / 128) * REDUCTION)
+}
+
 // g to the power of n, by the table.
 fn small_power(n: u8) -> u8
     ensures { λ v. ⌜ v ≡ gpow n ⌝ }

@@ -1,8 +1,8 @@
 // Loops over byte slices that multiply by any byte, eight masks to a product.
 pub mod within;
 
+use field::double;
 use lanes::shorter;
-use steps::double;
 use steps::mask;
 ghost use mathlib.Core.Path.{_≡_};
 ghost use mathlib.Core.List.{map};

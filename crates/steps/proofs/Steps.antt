@@ -1,4 +1,4 @@
--- Twice a byte, and sixteen times one with four times another, by shifts.
+-- Sixteen times a byte with four times another, by shifts.
 use mathlib.Core.Path.{_≡_, refl, sym, ap, ap₂, _∙_}
 use mathlib.Core.Bool.{Bool}
 use Prim.Native.Nat.{ℕ, _*_, _/_, _%_, _<_}
@@ -9,14 +9,6 @@ use Rattle.field.specs.Field.{_⊕_, _⊗_, doubled, shifted}
 use Rattle.field.proofs.Xor.{add-assoc, add-lt, sums}
 use Rattle.field.proofs.Mul.{mul-assoc, mul-add}
 use Rattle.field.proofs.Below.{below}
-
-twice-ok : ℕ → Bool
-twice-ok x = eqb (bitXor (x % 128 * 2) (x / 128 * 29)) (2 ⊗ x)
-
--- the doubling of the source
-pub twice : (x : ℕ) → x < 256 → bitXor (x % 128 * 2) (x / 128 * 29) ≡ 2 ⊗ x
-unfolding twice-ok _⊗_ shifted doubled _⊕_
-twice x h = eqb→eq (bitXor (x % 128 * 2) (x / 128 * 29)) (2 ⊗ x) (below twice-ok 256 tt x h)
 
 -- four bits, and what they come back as
 carry : ℕ → ℕ

@@ -1,4 +1,4 @@
--- Any two outcomes that a contract allows are equal: of a loop, what the first list holds; of a byte's multiple, the byte.
+-- Any two outcomes that a contract allows are equal: of a loop, what the first list holds; of a mask, the byte.
 use mathlib.Core.Path.{_≡_, sym, _∙_}
 use contract.Lifetimes.{Lfts}
 use borrow.Fn.World.{ArgsD, ResD}
@@ -10,8 +10,6 @@ use Rattle.steps.proofs.quadruple_add as quadruple-add
 use Rattle.steps.proofs.quadruple_add.Reads as quadruple-add-reads
 use Rattle.steps.proofs.quadruple_add_two as quadruple-add-two
 use Rattle.steps.proofs.quadruple_add_two.Reads as quadruple-add-two-reads
-use Rattle.steps.proofs.double as double
-use Rattle.steps.proofs.double.Reads as double-reads
 use Rattle.steps.proofs.mask as mask
 use Rattle.steps.proofs.mask.Reads as mask-reads
 
@@ -27,10 +25,6 @@ pub quadruple-add-two-unique : (κs : Lfts 3) (a : ArgsD quadruple-add-two.signa
     (s s′ : AtExit quadruple-add-two.ended κs)
     → quadruple-add-two-reads.Post κs a r s → quadruple-add-two-reads.Post κs a r′ s′ → now (s .0) ≡ now (s′ .0)
 quadruple-add-two-unique κs a r r′ s s′ p q = p ∙ sym q
-
-pub double-unique : (κs : Lfts 0) (a : ArgsD double.signature κs) (r r′ : ResD double.signature κs) (s s′ : AtExit double.ended κs)
-    → double-reads.Post κs a r s → double-reads.Post κs a r′ s′ → r ≡ r′
-double-unique κs a r r′ s s′ p q = p ∙ sym q
 
 pub mask-unique : (κs : Lfts 0) (a : ArgsD mask.signature κs) (r r′ : ResD mask.signature κs) (s s′ : AtExit mask.ended κs)
     → mask-reads.Post κs a r s → mask-reads.Post κs a r′ s′ → r ≡ r′

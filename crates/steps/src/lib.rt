@@ -1,5 +1,5 @@
 // The steps of rows 1 and 2: loops over byte slices that multiply by 2, 4 or 16 and add, made of shifts.
-use field::Gf;
+use field::double;
 use lanes::shorter;
 ghost use mathlib.Core.Path.{_≡_};
 ghost use mathlib.Core.Bool.{cond};
@@ -8,9 +8,6 @@ ghost use lib.Bits.{bitAnd};
 ghost use lib.Dec.{eqb};
 ghost use Rattle.field.specs.Field.{_⊕_, _⊗_, polynomial};
 ghost use Rattle.lanes.specs.Lanes.{onto, both};
-
-// x^8, as which the bit of x^7 comes back when a byte is doubled: the polynomial without its highest term.
-const REDUCTION: u8 = (Gf::POLYNOMIAL - 256) as u8;
 
 // At each place twice the first and the second.
 pub fn double_add(a: &mut [u8], d: &[u8])
@@ -48,13 +45,6 @@ pub fn quadruple_add_two(a: &mut [u8], d: &[u8], e: &[u8])
         a[q] = sixteen_and_four(a[q], d[q]) ^ e[q];
         q += 1;
     }
-}
-
-// Twice x.
-pub fn double(x: u8) -> u8
-    ensures { λ v. ⌜ v ≡ 2 ⊗ x ⌝ }
-{
-    ((x % 128) * 2) ^ ((x / 128) * REDUCTION)
 }
 
 // Sixteen times x and four times y: the highest bits of both come back together times x^4 + x^3 + x^2 + 1.

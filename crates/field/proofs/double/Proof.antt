@@ -1,8 +1,8 @@
--- `steps::double` meets its contract, by a test of all bytes.
-use Rattle.steps.proofs.Steps.{twice}
+-- `double` meets its contract, by a test of all bytes.
+use Rattle.field.proofs.Shifting.{twice}
 use borrow.Author.Needs.{needs}
-use Rattle.steps.proofs.double.Statement.{statement}
-use Rattle.steps.proofs.double.Tie as tie
+use Rattle.field.proofs.double.Statement.{statement}
+use Rattle.field.proofs.double.Tie as tie
 
 mul-result : tie.Need-mul-result
 mul-result c = search needs

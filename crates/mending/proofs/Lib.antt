@@ -1,5 +1,6 @@
 pub mod Passed
 pub mod Outcome
+pub mod Filled
 pub mod Slots
 pub mod Among
 pub mod Posed

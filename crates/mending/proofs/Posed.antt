@@ -7,15 +7,14 @@ use mathlib.Core.Logic.{_⊎_, inl, inr}
 use native.Mathlib.Omega.{arith}
 use native.Mathlib.Nat.{suc-inj, suc-ne-zero, mul-comm as ℕ-mul-comm, mul-le-mul}
 use lib.Dec.{eqb}
-use lib.ListN.{length, getD, set, take}
-use lib.Seq.{getD-take, length-take-le, ext-getD, getD-set-same, getD-set-other}
+use lib.ListN.{length, getD, take}
+use lib.Seq.{getD-take, length-take-le, ext-getD}
 use borrow.Author.Tests.{eqb-true, eq-eqb}
 use Rattle.field.specs.Field.{_⊕_, _⊗_, gpow, inverseOf}
 use Rattle.field.specs.Solve.{solve, moment}
 use Rattle.field.proofs.Xor.{add-lt}
 use Rattle.field.proofs.Mul.{mul-add, mul-assoc, mul-zero, mul-lt, mul-comm, one-mul, mul-inverse, gpow-zero, gpow-add, gpow-lt, gpow-pos}
 use Rattle.field.proofs.Solve.{solve-same, solve-moment, solved}
-use Rattle.field.proofs.Cases.{below-or-from}
 use Rattle.stripe.specs.declared.Shape.{Shape}
 use Rattle.stripe.specs.Shape.{columns, mostParity}
 use Rattle.stripe.specs.Stripe.{runs, among, Ascending, plainRuns}
@@ -239,16 +238,6 @@ unfolding less
 less-at x [] v h = absurd (omega arith)
 less-at x (i ∷ is) zero h = refl
 less-at x (i ∷ is) (suc v) h = less-at x is v (omega arith)
-
-pub weights-turn : (is ws : List ℕ) (x j v g : ℕ) → length ws ≡ capacity → v < capacity → ((u : ℕ) → u < v → getD ws u 0 ≡ gpow ((getD is u 0 - x) * j))
-    → g ≡ gpow ((getD is v 0 - x) * j) → (u : ℕ) → u < v + 1 → getD (set ws v g) u 0 ≡ gpow ((getD is u 0 - x) * j)
-weights-turn is ws x j v g long few h e u l = go (below-or-from u v)
-  where
-    go : (u < v) ⊎ (v ≤ u) → getD (set ws v g) u 0 ≡ gpow ((getD is u 0 - x) * j)
-    go (inl m) = getD-set-other ws v u g 0 (λ q. omega (arith, q)) ∙ h u m
-    go (inr m) =
-        let q : u ≡ v = omega arith in
-        ap (λ (z : ℕ). getD (set ws v g) z 0) q ∙ getD-set-same ws v g 0 (omega arith) ∙ e ∙ ap (λ (z : ℕ). gpow ((getD is z 0 - x) * j)) (sym q)
 
 pub small-product : (i x j : ℕ) → i < 256 → j < mostParity → (i - x) * j ≤ 256 * mostParity
 small-product i x j h k = mul-le-mul {n₂ = 256} {m₂ = mostParity} (omega arith) (omega arith)

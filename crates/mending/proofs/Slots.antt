@@ -7,8 +7,8 @@ use native.Mathlib.Nat.{le-of-suc-le-suc, not-suc-le-zero, suc-inj, suc-ne-zero,
 use native.Mathlib.Numerals.{add-one}
 use native.Mathlib.Omega.{arith}
 use lib.Dec.{lit<}
-use lib.ListN.{length, getD, set, take, drop, length-drop, length-map}
-use lib.Seq.{getD-take, ext-getD, length-take-le, take-all, getD-set-same, getD-set-other}
+use lib.ListN.{length, getD, take, drop, length-drop, length-map}
+use lib.Seq.{getD-take, ext-getD, length-take-le, take-all}
 use borrow.Rule.Slice.PartMut.{putMid}
 use Rattle.field.specs.Field.{_⊕_, _⊗_, inverseOf}
 use Rattle.field.specs.Bytes.{Bytes}
@@ -174,22 +174,6 @@ clearing-done c e a d n xs ys u h k t =
       next = λ q v hq l. t .next q v hq (omega arith) l;
       off = λ i g. t .off i (λ v l m. g v (omega arith) m);
     }
-
--- ---- setting apart
-
-pub setting-turn : (bs ws xs : List ℕ) (v x : ℕ) → 1 ≤ v → v < length bs → length bs ≤ capacity → length xs ≡ capacity
-    → ((u : ℕ) → u + 1 < v → getD xs u 0 ≡ getD ws (u + 1) 0 ⊗ (getD bs (u + 1) 0 ⊕ getD bs 0 0))
-    → x ≡ getD ws v 0 ⊗ (getD bs v 0 ⊕ getD bs 0 0)
-    → (u : ℕ) → u + 1 < v + 1 → getD (set xs (v - 1) x) u 0 ≡ getD ws (u + 1) 0 ⊗ (getD bs (u + 1) 0 ⊕ getD bs 0 0)
-setting-turn bs ws xs v x hv lv few long h e u l = go (below-or-from (u + 1) v)
-  where
-    go : (u + 1 < v) ⊎ (v ≤ u + 1) → getD (set xs (v - 1) x) u 0 ≡ getD ws (u + 1) 0 ⊗ (getD bs (u + 1) 0 ⊕ getD bs 0 0)
-    go (inl m) = getD-set-other xs (v - 1) u x 0 (λ q. omega (arith, q)) ∙ h u m
-    go (inr m) =
-        let q : v - 1 ≡ u = omega arith in
-        let r : v ≡ u + 1 = omega arith in
-        ap (λ (n : ℕ). getD (set xs n x) u 0) q ∙ getD-set-same xs u x 0 (omega arith)
-        ∙ e ∙ ap (λ (n : ℕ). getD ws n 0 ⊗ (getD bs n 0 ⊕ getD bs 0 0)) r
 
 -- ---- the first value
 

@@ -6,7 +6,7 @@ use mathlib.Core.Logic.{_⊎_}
 use mathlib.Core.List.{List, [], _∷_}
 use lib.ListN.{length, getD, take}
 use Rattle.stripe.specs.declared.Shape.{Shape}
-use Rattle.stripe.specs.Shape.{columns}
+use Rattle.stripe.specs.Shape.{columns, mostParity}
 use Rattle.stripe.specs.Stripe.{runs, among, Ascending, plainRuns}
 use Rattle.stripe.proofs.Survivors.{firstRow, rowStep}
 use Rattle.stripe.proofs.Lost.{lostData, rowLost}
@@ -24,6 +24,13 @@ lostIn p = lostList (p .lost)
 
 abbrev pub gone : Shape → System → List ℕ
 gone s p = lostData (s .k) (lostIn p)
+
+-- there is room for the lost data columns, whose positions are counted from x on in row j
+abbrev pub Counted : System → ℕ → ℕ → Type 0
+Counted p x j =
+    (length (p .lost .at) ≡ capacity)
+    × ((p .count ≤ capacity)
+    × ((j < mostParity) × ((v : ℕ) → v < p .count → (x ≤ getD (p .lost .at) v 0) × (getD (p .lost .at) v 0 < 256))))
 
 -- row j is solved by; is not
 abbrev pub Solver : System → ℕ → Type 0

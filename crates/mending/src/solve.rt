@@ -8,7 +8,8 @@ use products::scale_all;
 use products::within::mix;
 ghost use mathlib.Core.Path.{_≡_};
 ghost use Prim.Native.Nat.{_≤_, _<_};
-ghost use lib.ListN.{length};
+ghost use lib.ListN.{length, getD};
+ghost use Rattle.field.specs.Field.{_⊕_, _⊗_};
 ghost use Rattle.mending.specs.Slots.{Spaced, Cleared, First, SetApart, Solved};
 ghost use Rattle.lost.specs.Lost.{capacity};
 
@@ -48,18 +49,30 @@ fn clear(c: u8, e: usize, slots: &mut [u8], at: usize, d: usize, n: usize)
     }
 }
 
-// The weights but the first, each times what its point is apart from the first.
+// The weights but the first, each times what its point is apart from the first. Every entry is set, as in `row_weights`.
 fn set_apart(points: &[u8], weights: &[u8]) -> [u8; CAPACITY]
     requires { ⌜ (length (now points) ≤ capacity) × (length (now weights) ≡ length (now points)) ⌝ }
     ensures { λ v. ⌜ SetApart (now (points .entry)) (now (weights .entry)) v ⌝ }
 {
     let mut w = [0u8; CAPACITY];
-    let mut v = 1;
-    while v < points.len() {
-        w[v - 1] = product(weights[v], points[v] ^ points[0]);
+    let mut v = 0;
+    while v < CAPACITY {
+        w[v] = weight_apart(points, weights, v + 1);
         v += 1;
     }
     w
+}
+
+// The weight of point number v times what that is apart from the first, where there are as many.
+fn weight_apart(points: &[u8], weights: &[u8], v: usize) -> u8
+    requires { ⌜ length (now weights) ≡ length (now points) ⌝ }
+    ensures { λ w. ⌜ (v < length (now (points .entry))
+        → w ≡ getD (now (weights .entry)) v 0 ⊗ (getD (now (points .entry)) v 0 ⊕ getD (now (points .entry)) 0 0)) ⌝ }
+{
+    if points.len() <= v {
+        return 0;
+    }
+    product(weights[v], points[v] ^ points[0])
 }
 
 // The first slot and the others by their weights, times the inverse of the first weight.

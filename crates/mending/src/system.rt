@@ -8,12 +8,12 @@ use lost::CAPACITY;
 use lost::Lost;
 use stripe::Shape;
 ghost use mathlib.Core.Path.{_≡_};
-ghost use Prim.Native.Nat.{ℕ, _≤_, _<_};
+ghost use Prim.Native.Nat.{_-_, _*_, _<_};
 ghost use lib.ListN.{length, getD, take};
 ghost use Rattle.stripe.proofs.Errors.{points};
-ghost use Rattle.stripe.specs.Shape.{mostParity};
+ghost use Rattle.field.specs.Field.{gpow};
 ghost use Rattle.mending.specs.Restore.{Ready};
-ghost use Rattle.mending.specs.System.{PivotOf, Posed, less};
+ghost use Rattle.mending.specs.System.{PivotOf, Posed, Counted, less};
 ghost use Rattle.lost.specs.Lost.{capacity};
 
 // The first `count` lost positions are data columns, counted from `pivot` on; rows first, first + step, .. are solved by.
@@ -62,20 +62,29 @@ fn pivot_of(t: usize, count: usize, all: usize, first: usize) -> usize
     first
 }
 
-// g^((i - x) * j) for each lost data column i.
+// g^((i - x) * j) for each lost data column i. Every entry is set, whatever their number: so the compiler keeps the array in registers.
 pub(crate) fn row_weights(p: System, x: usize, j: usize) -> [u8; CAPACITY]
-    requires { ⌜ (length (p .lost .at) ≡ capacity)
-        × ((p .count ≤ capacity)
-        × ((j < mostParity) × ((v : ℕ) → v < p .count → (x ≤ getD (p .lost .at) v 0) × (getD (p .lost .at) v 0 < 256)))) ⌝ }
+    requires { ⌜ Counted p x j ⌝ }
     ensures { λ w. ⌜ (length w ≡ capacity) × (take (p .count) w ≡ points j (less x (take (p .count) (p .lost .at)))) ⌝ }
 {
-    let lost = p.lost;
-    let at = lost.at;
     let mut w = [0u8; CAPACITY];
     let mut v = 0;
-    while v < p.count {
-        w[v] = power((at[v] - x) * j);
+    while v < CAPACITY {
+        w[v] = row_weight(p, x, j, v);
         v += 1;
     }
     w
+}
+
+// The same for lost data column number v alone, where there are as many.
+fn row_weight(p: System, x: usize, j: usize, v: usize) -> u8
+    requires { ⌜ Counted p x j ⌝ }
+    ensures { λ w. ⌜ (v < p .count → w ≡ gpow ((getD (p .lost .at) v 0 - x) * j)) ⌝ }
+{
+    if p.count <= v {
+        return 0;
+    }
+    let lost = p.lost;
+    let at = lost.at;
+    power((at[v] - x) * j)
 }

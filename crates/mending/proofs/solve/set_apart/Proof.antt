@@ -1,39 +1,34 @@
--- `set_apart` meets its contract.
+-- `set_apart` meets its contract: each entry is one weight set apart, where there is one.
 use Prim.Native.Nat.{ℕ, _+_, _≤_, _<_, _-_}
+use mathlib.Core.List.{List}
 use mathlib.Core.Path.{_≡_, refl}
 use native.Mathlib.Omega.{arith}
 use lib.ListN.{length, getD, length-set}
 use borrow.Author.Needs.{needs}
 use Rattle.field.specs.Field.{_⊕_, _⊗_}
-use Rattle.mending.proofs.Slots.{setting-turn}
+use Rattle.mending.proofs.Filled.{filled-turn}
 use Rattle.mending.proofs.solve.set_apart.Statement.{statement}
 use Rattle.mending.proofs.solve.set_apart.Tie as tie
 use Rattle.lost.specs.Lost.{capacity}
 
+-- x is the weight of point u + 1 set apart
+abbrev Apart : List ℕ → List ℕ → ℕ → ℕ → Type 0
+Apart bs ws u x = u + 1 < length bs → x ≡ getD ws (u + 1) 0 ⊗ (getD bs (u + 1) 0 ⊕ getD bs 0 0)
+
 abbrev Inv-loop : tie.InvT-loop
-Inv-loop points weights w₀ v₀ w v =
-    (1 ≤ v) × ((length w ≡ capacity) × ((u : ℕ) → u + 1 < v → getD w u 0 ≡ getD weights (u + 1) 0 ⊗ (getD points (u + 1) 0 ⊕ getD points 0 0)))
+Inv-loop points weights w₀ v₀ w v = (v ≤ capacity) × ((length w ≡ capacity) × ((u : ℕ) → u < v → Apart points weights u (getD w u 0)))
 
 abbrev μ-loop : tie.MeasureT-loop
-μ-loop points weights w₀ v₀ w v = length points - v
+μ-loop points weights w₀ v₀ w v = capacity - v
 
 loop-holds : tie.Need-loop-holds Inv-loop μ-loop
 loop-holds c = (search needs, (refl, λ u l. absurd (omega arith)))
 
-shared-slice-read-product : tie.Need-shared-slice-read-product Inv-loop μ-loop
-shared-slice-read-product c = search needs
+add-weight-apart : tie.Need-add-weight-apart Inv-loop μ-loop
+add-weight-apart c = search needs
 
-shared-slice-read-product-2 : tie.Need-shared-slice-read-product-2 Inv-loop μ-loop
-shared-slice-read-product-2 c = search needs
-
-shared-slice-read-product-3 : tie.Need-shared-slice-read-product-3 Inv-loop μ-loop
-shared-slice-read-product-3 c = search needs
-
-product-requires : tie.Need-product-requires Inv-loop μ-loop
-product-requires c κs = search needs
-
-sub-w : tie.Need-sub-w Inv-loop μ-loop
-sub-w c = search needs
+weight-apart-requires : tie.Need-weight-apart-requires Inv-loop μ-loop
+weight-apart-requires c κs = search needs
 
 array-write-w : tie.Need-array-write-w Inv-loop μ-loop
 array-write-w c = search needs
@@ -45,23 +40,21 @@ loop-less : tie.Need-loop-less Inv-loop μ-loop
 loop-less c = search needs
 
 loop-again : tie.Need-loop-again Inv-loop μ-loop
-unfolding _⊕_
 loop-again c =
-    let start = c .before .before .before .before .before .before .before .before in
-    let a = start .args in
-    let l = c .before .before .before .before .before .loop in (
+    let l = c .before .before .loop in
+    let a = c .before .before .before .before .before .args in (
       search needs,
       (
         simp length-set (l .inv .1 .0),
-        setting-turn (a .points .now) (a .weights .now) (l .w) (l .v) _ (l .inv .0) (c .before .before .before .before .loop-test .taken) (start .pre .0)
-            (l .inv .1 .0) (l .inv .1 .1) (c .product .ensures),
+        filled-turn (Apart (a .points .now) (a .weights .now)) (l .w) (l .v) _ (omega (arith, l .inv .1 .0)) (l .inv .1 .1) (c .weight-apart .ensures),
       ),
     )
 
 returns : tie.Need-returns Inv-loop μ-loop
 returns c =
     let l = c .before .loop in
-    record { long = l .inv .1 .0; at = λ v h. l .inv .1 .1 v (omega arith) }
+    let few = c .before .before .before .before .pre .0 in
+    record { long = l .inv .1 .0; at = λ v h. l .inv .1 .1 v (omega (arith, few)) h }
 
 pub set-apart-spec : {M : Type 1} → statement M
 set-apart-spec =
@@ -70,11 +63,8 @@ set-apart-spec =
     Inv-loop
     μ-loop
     loop-holds
-    shared-slice-read-product
-    shared-slice-read-product-2
-    shared-slice-read-product-3
-    product-requires
-    sub-w
+    add-weight-apart
+    weight-apart-requires
     array-write-w
     add-v
     loop-less

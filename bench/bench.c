@@ -436,6 +436,8 @@ int main(void)
     printf("(64 against 4096) %12s %7.2f", "", results[1][0].speed / results[1][2].speed);
     require(results[1][0].speed / results[1][2].speed, 1.0 / 3);
     printf("\n");
+    each(3, 0, mend_1);
+    each(3, 0, mend_2);
     each(3, 0, mend_3);
     each(2, 0, mend_parity);
     each(1, 2, mend_1);

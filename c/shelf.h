@@ -66,7 +66,7 @@ extern "C" {
 #endif
 
 /* The version of this header and of the library that it came with. */
-#define SHELF_VERSION "0.2.0"
+#define SHELF_VERSION "0.2.1"
 
 /* The limits, for the sizes of a caller's buffers. */
 enum {

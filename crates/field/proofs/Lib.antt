@@ -4,6 +4,7 @@ pub mod Cases
 pub mod Tables
 pub mod Mul
 pub mod Shifting
+pub mod Euclid
 pub mod Powers
 pub mod Bytes
 pub mod Over

@@ -1,7 +1,7 @@
 -- The laws of the product. Assumes nothing.
 use mathlib.Core.Path.{_≡_, refl, sym, ap, ap₂, _∙_, subst}
 use mathlib.Core.Bool.{Bool}
-use Prim.Native.Nat.{ℕ, zero, suc, _+_, _-_, _≤_, _*_, _/_, _%_, _<_, _^_}
+use Prim.Native.Nat.{ℕ, zero, suc, _+_, _*_, _/_, _%_, _<_, _^_}
 use native.Mathlib.Nat.{mod-lt, zero-lt-suc, mod-eq-of-lt, div-add-mod', mul-div-cancel, mul-mod-left}
 use native.Mathlib.Nat.{add-zero as ℕ-add-zero, zero-add as ℕ-zero-add, add-comm as ℕ-add-comm, add-assoc as ℕ-add-assoc}
 use native.Mathlib.Nat.{zero-mul as ℕ-zero-mul, mul-comm as ℕ-mul-comm, suc-mul, add-suc, suc-add, le-of-suc-le-suc, not-suc-le-zero}
@@ -174,9 +174,13 @@ unfolding gpow power
 gpow-lt zero = lit< tt
 gpow-lt (suc n) = mul-lt 2 (gpow n)
 
+pub two-mul : (a : ℕ) → a < 256 → 2 ⊗ a ≡ doubled a
+unfolding _⊗_
+two-mul a h = ap (shifted 8 2) (mod-eq-of-lt h) ∙ bits-two a h
+
 pub gpow-suc : (n : ℕ) → gpow (suc n) ≡ doubled (gpow n)
-unfolding gpow power _⊗_
-gpow-suc n = ap (shifted 8 2) (mod-eq-of-lt (gpow-lt n)) ∙ bits-two (gpow n) (gpow-lt n)
+unfolding gpow power
+gpow-suc n = two-mul (gpow n) (gpow-lt n)
 
 mul-doubled : (a b : ℕ) → b < 256 → a ⊗ doubled b ≡ doubled (a ⊗ b)
 unfolding _⊗_
@@ -203,7 +207,7 @@ gpow-pos (suc n) = go (gpow n) refl (gpow-pos n)
     go (suc a) e h =
         subst (λ (x : ℕ). 0 < x) (sym (gpow-suc n ∙ ap doubled e)) (doubled-pos a (omega (arith, gpow-lt n)))
 
--- ---- the tables: the powers one after the other, and the exponent of each element
+-- ---- the witnesses: the powers one after the other, and the exponent of each element
 
 walk : ℕ → ℕ → List ℕ
 walk zero a = []
@@ -258,13 +262,6 @@ log-at (suc a) p h =
     sym (power-at (getD logarithms (suc a) 0) (omega (arith, log-lt (suc a) h)))
     ∙ eqb→eq (getD powers (getD logarithms (suc a) 0) 0) (suc a)
     (both-right (ltb (getD logarithms (suc a) 0) 255) (eqb (getD powers (getD logarithms (suc a) 0) 0) (suc a)) (log-rule (suc a) h))
-
--- the rule at the entry v of a
-pub log-rules : (a v : ℕ) → a < 256 → v ≡ getD logarithms a 0 → (v < 255) × ((0 < a → gpow v ≡ a) × (a ≡ 0 → v ≡ 0))
-log-rules a v h e = (
-  subst (λ (x : ℕ). x < 255) (sym e) (log-lt a h),
-  (λ p. ap gpow e ∙ log-at a p h, λ z. e ∙ ap (λ (x : ℕ). getD logarithms x 0) z ∙ log-zero),
-)
 
 exp-ok : ℕ → Bool
 exp-ok n = eqb (getD logarithms (getD powers n 0) 0) n
@@ -395,19 +392,3 @@ pub inverse-unique : (a r : ℕ) → 0 < a → a < 256 → r < 256 → a ⊗ r �
 inverse-unique a r p h k e =
     sym (mul-one r k) ∙ ap (λ (x : ℕ). r ⊗ x) (sym (mul-inverse a p h)) ∙ sym (mul-assoc r a (inverseOf a))
     ∙ ap (λ (x : ℕ). x ⊗ inverseOf a) (mul-comm r a ∙ e) ∙ one-mul (inverseOf a) (inverse-lt a)
-
--- the inverse by exponents
-pub inverse-of-log : (a n : ℕ) → n ≤ 255 → gpow n ≡ a → gpow (255 - n) ≡ inverseOf a
-inverse-of-log a n l e =
-    inverse-unique a (gpow (255 - n)) (subst (λ (x : ℕ). 0 < x) e (gpow-pos n)) (subst (λ (x : ℕ). x < 256) e (gpow-lt n)) (gpow-lt (255 - n))
-    (ap (λ (x : ℕ). x ⊗ gpow (255 - n)) (sym e) ∙ sym (gpow-add n (255 - n)) ∙ ap gpow (omega arith) ∙ gpow-255)
-
--- the product by exponents
-pub product-left : (a b : ℕ) → a ≡ 0 → 0 ≡ a ⊗ b
-product-left a b e = sym (ap (λ (x : ℕ). x ⊗ b) e ∙ zero-mul b)
-
-pub product-right : (a b : ℕ) → b ≡ 0 → 0 ≡ a ⊗ b
-product-right a b e = sym (ap (λ (x : ℕ). a ⊗ x) e ∙ mul-zero a)
-
-pub product-logs : (a b m n : ℕ) → gpow m ≡ a → gpow n ≡ b → gpow (m + n) ≡ a ⊗ b
-product-logs a b m n e f = gpow-add m n ∙ ap₂ _⊗_ e f

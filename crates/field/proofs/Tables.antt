@@ -1,4 +1,4 @@
--- The powers of the generator, and the exponent of each element but 0 (at 0 stands 0).
+-- The powers of the generator, and the exponent of each element but 0 (at 0 stands 0): witnesses for the laws, which no code reads.
 -- Assumes nothing.
 use mathlib.Core.List.{List, [], _∷_}
 use Prim.Native.Nat.{ℕ}

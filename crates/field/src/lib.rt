@@ -1,8 +1,9 @@
 // The field of 256 elements: bytes, whose sum is the exclusive or and whose product is reduced by the polynomial 11D.
-// Every function is total. Products and inverses go by two tables; no contract tells of them.
+// Every function is total. Products, inverses and powers are worked out by shifting and reducing; no contract tells how.
 ghost use mathlib.Core.Path.{_≡_};
-ghost use Prim.Native.Nat.{_<_};
-ghost use Rattle.field.specs.Field.{_⊕_, _⊗_, gpow, inverseOf, polynomial, generator, order};
+ghost use Prim.Native.Nat.{_*_, _/_, _%_, _<_};
+ghost use Rattle.field.specs.Field.{_⊕_, _⊗_, gpow, inverseOf, polynomial, generator, order, times};
+ghost use Rattle.field.specs.Euclid.{Rest};
 
 // An element. Bit i of the byte is the coefficient of x^i.
 pub struct Gf(pub u8);
@@ -46,35 +47,58 @@ impl Gf {
         Gf(self.0 ^ o.0)
     }
 
-    // The product; with zero it is zero.
+    // The product; with zero it is zero. For each bit of the first the second is added, and doubled for the next.
     pub fn product(self, o: Gf) -> Gf
         ensures { λ v. ⌜ v .0 ≡ self .0 ⊗ o .0 ⌝ }
     {
-        if self.0 == 0 {
-            return Gf(0);
+        let mut a = self.0;
+        let mut b = o.0;
+        let mut sum = 0u8;
+        let mut n = 8usize;
+        while 0 < n {
+            sum = sum ^ low_times(a, b);
+            a = a / 2;
+            b = double(b);
+            n = n - 1;
         }
-        if o.0 == 0 {
-            return Gf(0);
-        }
-        let n = logarithm(self.0) + logarithm(o.0);
-        Gf::power(n)
+        Gf(sum)
     }
 
-    // The inverse; of zero it is zero.
+    // The inverse; of zero it is zero. By Euclid's algorithm on two polynomials, the reducing one and the element, each in the high half of
+    // a number, until one is 1; in the low half stands by what this element is to be multiplied to give it.
     pub fn inverse(self) -> Gf
         ensures { λ v. ⌜ v .0 ≡ inverseOf (self .0) ⌝ }
     {
         if self.0 == 0 {
             return self;
         }
-        Gf::power(Gf::ORDER - logarithm(self.0))
+        let mut u = (Gf::POLYNOMIAL as u32) * 65536;
+        let mut v = wide(self.0) * 65536 + 1;
+        while 131072 <= v {
+            let w = rest(u, v);
+            u = v;
+            v = w;
+        }
+        Gf((v % 256) as u8)
     }
 
-    // g to the power of n.
+    // g to the power of n: below 8 a shift, below 128 a shift and a reduction, and else the square of the power of half as much.
     pub fn power(n: usize) -> Gf
         ensures { λ v. ⌜ v .0 ≡ gpow n ⌝ }
     {
-        Gf(small_power((n % Gf::ORDER) as u8))
+        if n < 8 {
+            return Gf(1 << n);
+        }
+        if n < 128 {
+            return Gf(low_power(n));
+        }
+        let m = n % Gf::ORDER;
+        let half = Gf(low_power(m / 2));
+        let even = half.product(half);
+        if m % 2 == 0 {
+            return even;
+        }
+        Gf(double(even.0))
     }
 }
 
@@ -88,543 +112,60 @@ pub fn double(x: u8) -> u8
     ((x % 128) * 2) ^ ((x / 128) * REDUCTION)
 }
 
-// g to the power of n, by the table.
-fn small_power(n: u8) -> u8
-    ensures { λ v. ⌜ v ≡ gpow n ⌝ }
+// The lowest bit of a times b.
+fn low_times(a: u8, b: u8) -> u8
+    ensures { λ v. ⌜ v ≡ times (a % 2) b ⌝ }
 {
-    POW[n as usize]
+    if a % 2 == 0 {
+        return 0;
+    }
+    b
 }
 
-// The exponent, below 255, to which g is a; of zero it is zero.
-fn logarithm(a: u8) -> usize
-    ensures { λ v. ⌜ (v < 255) × ((0 < a → gpow v ≡ a) × (a ≡ 0 → v ≡ 0)) ⌝ }
+// What is left of u once v is taken from it, shifted to u's highest bit, until v is the longer one.
+fn rest(u: u32, v: u32) -> u32
+    requires { ⌜ 0 < v ⌝ }
+    ensures { λ w. ⌜ Rest v u w ⌝ }
 {
-    wide(LOG[a as usize])
+    let z = u32::leading_zeros(v);
+    let mut w = u;
+    while u32::leading_zeros(w) <= z {
+        w = w ^ (v << (z - u32::leading_zeros(w)));
+    }
+    w
+}
+
+// g^0, g^8, .. g^56 as the bytes of a number, the first lowest.
+const EIGHTHS: u64 = 0x5d466a9d8f4c1d01;
+
+// g^64, g^72, .. g^120 likewise.
+const EIGHTHS_FROM_64: u64 = 0x3b810dd9fefd655f;
+
+// g to the power of n, less what n is above a multiple of 8.
+fn eighth_power(n: usize) -> u64
+    requires { ⌜ n < 128 ⌝ }
+    ensures { λ v. ⌜ v ≡ gpow (n / 8 * 8) ⌝ }
+{
+    if n < 64 {
+        return (EIGHTHS >> (n / 8 * 8)) % 256;
+    }
+    (EIGHTHS_FROM_64 >> (n / 8 * 8 - 64)) % 256
+}
+
+// g to the power of n: an eighth power, shifted by what is left. Its bits from x^8 on say how often the polynomial goes in.
+fn low_power(n: usize) -> u8
+    requires { ⌜ n < 128 ⌝ }
+    ensures { λ v. ⌜ v ≡ gpow n ⌝ }
+{
+    let v = eighth_power(n) << (n % 8);
+    let h = v / 256;
+    let q = h ^ (h / 16) ^ (h / 32) ^ (h / 64);
+    ((v ^ q ^ (q << 2) ^ (q << 3) ^ (q << 4)) % 256) as u8
 }
 
 // The same number.
-fn wide(x: u8) -> usize
+fn wide(x: u8) -> u32
     ensures { λ v. ⌜ v ≡ x ⌝ }
 {
-    x as usize
+    x as u32
 }
-
-// g^0 to g^255.
-const POW: [u8; 256] = [
-    1, // POW[0]
-    2,
-    4,
-    8,
-    16,
-    32,
-    64,
-    128,
-    29, // POW[8]
-    58,
-    116,
-    232,
-    205,
-    135,
-    19,
-    38,
-    76,
-    152,
-    45,
-    90,
-    180,
-    117,
-    234,
-    201,
-    143,
-    3,
-    6,
-    12,
-    24,
-    48,
-    96,
-    192,
-    157,
-    39,
-    78,
-    156,
-    37,
-    74,
-    148,
-    53,
-    106,
-    212,
-    181,
-    119,
-    238,
-    193,
-    159,
-    35,
-    70,
-    140,
-    5,
-    10,
-    20,
-    40,
-    80,
-    160,
-    93,
-    186,
-    105,
-    210,
-    185,
-    111,
-    222,
-    161,
-    95,
-    190,
-    97,
-    194,
-    153,
-    47,
-    94,
-    188,
-    101,
-    202,
-    137,
-    15,
-    30,
-    60,
-    120,
-    240,
-    253,
-    231,
-    211,
-    187,
-    107,
-    214,
-    177,
-    127,
-    254,
-    225,
-    223,
-    163,
-    91,
-    182,
-    113,
-    226,
-    217,
-    175,
-    67,
-    134,
-    17,
-    34,
-    68,
-    136,
-    13,
-    26,
-    52,
-    104,
-    208,
-    189,
-    103,
-    206,
-    129,
-    31,
-    62,
-    124,
-    248,
-    237,
-    199,
-    147,
-    59,
-    118,
-    236,
-    197,
-    151,
-    51,
-    102,
-    204,
-    133,
-    23,
-    46,
-    92,
-    184,
-    109,
-    218,
-    169,
-    79,
-    158,
-    33,
-    66,
-    132,
-    21,
-    42,
-    84,
-    168,
-    77,
-    154,
-    41,
-    82,
-    164,
-    85,
-    170,
-    73,
-    146,
-    57,
-    114,
-    228,
-    213,
-    183,
-    115,
-    230,
-    209,
-    191,
-    99,
-    198,
-    145,
-    63,
-    126,
-    252,
-    229,
-    215,
-    179,
-    123,
-    246,
-    241,
-    255,
-    227,
-    219,
-    171,
-    75,
-    150,
-    49,
-    98,
-    196,
-    149,
-    55,
-    110,
-    220,
-    165,
-    87,
-    174,
-    65,
-    130,
-    25,
-    50,
-    100,
-    200,
-    141,
-    7,
-    14,
-    28,
-    56,
-    112,
-    224,
-    221,
-    167,
-    83,
-    166,
-    81,
-    162,
-    89,
-    178,
-    121,
-    242,
-    249,
-    239,
-    195,
-    155,
-    43,
-    86,
-    172,
-    69,
-    138,
-    9,
-    18,
-    36,
-    72,
-    144,
-    61,
-    122,
-    244,
-    245,
-    247,
-    243,
-    251,
-    235,
-    203,
-    139,
-    11,
-    22,
-    44,
-    88,
-    176,
-    125,
-    250,
-    233,
-    207,
-    131,
-    27,
-    54,
-    108,
-    216,
-    173,
-    71,
-    142,
-    1, // POW[255]
-];
-
-// The exponent of each byte; zero has none, and its entry is 0.
-const LOG: [u8; 256] = [
-    0, // LOG[0]
-    0, // LOG[1]
-    1,
-    25,
-    2,
-    50,
-    26,
-    198,
-    3,
-    223,
-    51,
-    238,
-    27,
-    104,
-    199,
-    75,
-    4,
-    100,
-    224,
-    14,
-    52,
-    141,
-    239,
-    129,
-    28,
-    193,
-    105,
-    248,
-    200,
-    8, // LOG[29]
-    76,
-    113,
-    5,
-    138,
-    101,
-    47,
-    225,
-    36,
-    15,
-    33,
-    53,
-    147,
-    142,
-    218,
-    240,
-    18,
-    130,
-    69,
-    29,
-    181,
-    194,
-    125,
-    106,
-    39,
-    249,
-    185,
-    201,
-    154,
-    9,
-    120,
-    77,
-    228,
-    114,
-    166,
-    6,
-    191,
-    139,
-    98,
-    102,
-    221,
-    48,
-    253,
-    226,
-    152,
-    37,
-    179,
-    16,
-    145,
-    34,
-    136,
-    54,
-    208,
-    148,
-    206,
-    143,
-    150,
-    219,
-    189,
-    241,
-    210,
-    19,
-    92,
-    131,
-    56,
-    70,
-    64,
-    30,
-    66,
-    182,
-    163,
-    195,
-    72,
-    126,
-    110,
-    107,
-    58,
-    40,
-    84,
-    250,
-    133,
-    186,
-    61,
-    202,
-    94,
-    155,
-    159,
-    10,
-    21,
-    121,
-    43,
-    78,
-    212,
-    229,
-    172,
-    115,
-    243,
-    167,
-    87,
-    7,
-    112,
-    192,
-    247,
-    140,
-    128,
-    99,
-    13,
-    103,
-    74,
-    222,
-    237,
-    49,
-    197,
-    254,
-    24,
-    227,
-    165,
-    153,
-    119,
-    38,
-    184,
-    180,
-    124,
-    17,
-    68,
-    146,
-    217,
-    35,
-    32,
-    137,
-    46,
-    55,
-    63,
-    209,
-    91,
-    149,
-    188,
-    207,
-    205,
-    144,
-    135,
-    151,
-    178,
-    220,
-    252,
-    190,
-    97,
-    242,
-    86,
-    211,
-    171,
-    20,
-    42,
-    93,
-    158,
-    132,
-    60,
-    57,
-    83,
-    71,
-    109,
-    65,
-    162,
-    31,
-    45,
-    67,
-    216,
-    183,
-    123,
-    164,
-    118,
-    196,
-    23,
-    73,
-    236,
-    127,
-    12,
-    111,
-    246,
-    108,
-    161,
-    59,
-    82,
-    41,
-    157,
-    85,
-    170,
-    251,
-    96,
-    134,
-    177,
-    187,
-    204,
-    62,
-    90,
-    203,
-    89,
-    95,
-    176,
-    156,
-    169,
-    160,
-    81,
-    11,
-    245,
-    22,
-    235,
-    122,
-    117,
-    44,
-    215,
-    79,
-    174,
-    213,
-    233,
-    230,
-    231,
-    173,
-    232,
-    116,
-    214,
-    244,
-    234,
-    168,
-    80,
-    88,
-    175,
-];

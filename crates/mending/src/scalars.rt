@@ -1,19 +1,7 @@
-// Powers and products of single elements. Most powers are low, and most products are of 1: they need no table, a look at which costs as
-// much as a block of places.
+// Products of single elements. Most of them are by 1, which need not be worked out.
 use field::Gf;
 ghost use mathlib.Core.Path.{_≡_};
-ghost use Rattle.field.specs.Field.{_⊗_, gpow};
-
-// g^n.
-pub(crate) fn power(n: usize) -> u8
-    ensures { λ v. ⌜ v ≡ gpow n ⌝ }
-{
-    if n < 8 {
-        let low = [1u8, 2, 4, 8, 16, 32, 64, 128];
-        return low[n];
-    }
-    Gf::power(n).0
-}
+ghost use Rattle.field.specs.Field.{_⊗_};
 
 // x times y.
 pub(crate) fn product(x: u8, y: u8) -> u8

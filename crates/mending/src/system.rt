@@ -1,9 +1,9 @@
 // What is solved, once for all places: which lost columns are unknown, which rows are the equations, and the powers of g that belong
 // to them.
-use crate::scalars::power;
 use crate::survivors::data_lost;
 use crate::survivors::first_row;
 use crate::survivors::row_step;
+use field::Gf;
 use lost::CAPACITY;
 use lost::Lost;
 use stripe::Shape;
@@ -86,5 +86,5 @@ fn row_weight(p: System, x: usize, j: usize, v: usize) -> u8
     }
     let lost = p.lost;
     let at = lost.at;
-    power((at[v] - x) * j)
+    Gf::power((at[v] - x) * j).0
 }

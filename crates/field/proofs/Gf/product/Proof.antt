@@ -1,41 +1,55 @@
--- `Gf::product` meets its contract: a product with zero is zero, and any other is the power of the summed logarithms.
+-- `Gf::product` meets its contract: what is summed so far and the product of the bits that are left are the product.
+use mathlib.Core.Path.{_≡_, sym, subst}
+use Prim.Native.Nat.{ℕ, _<_}
 use borrow.Author.Needs.{needs}
-use mathlib.Core.Path.{_∙_}
-use Rattle.field.proofs.Mul.{product-left, product-right, product-logs}
+use Rattle.field.specs.Field.{_⊕_, _⊗_, shifted}
+use Rattle.field.proofs.Mul.{mul-lt}
+use Rattle.field.proofs.Shifting.{product-start, product-turn, product-done}
 use Rattle.field.proofs.Gf.product.Statement.{statement}
 use Rattle.field.proofs.Gf.product.Tie as tie
 
-returns : tie.Need-returns
-returns c = product-left _ _ (search needs)
+abbrev Inv-loop : tie.InvT-loop
+Inv-loop a₀ b₀ sum₀ n₀ a b sum n = (b < 256) × (sum ⊕ shifted n a b ≡ a₀ ⊗ b₀)
 
-returns-2 : tie.Need-returns-2
-returns-2 c = product-right _ _ (search needs)
+abbrev μ-loop : tie.MeasureT-loop
+μ-loop a₀ b₀ sum₀ n₀ a b sum n = n
 
-logarithm-requires : tie.Need-logarithm-requires
-logarithm-requires c κs = search needs
+loop-holds : tie.Need-loop-holds Inv-loop μ-loop
+loop-holds c = (search needs, product-start _ _ (search needs))
 
-logarithm-requires-2 : tie.Need-logarithm-requires-2
-logarithm-requires-2 c κs = search needs
+low-times-requires : tie.Need-low-times-requires Inv-loop μ-loop
+low-times-requires c κs = search needs
 
-add-n : tie.Need-add-n
-add-n c = search needs
+double-requires : tie.Need-double-requires Inv-loop μ-loop
+double-requires c κs = search needs
 
-power-requires : tie.Need-power-requires
-power-requires c κs = search needs
+sub-n : tie.Need-sub-n Inv-loop μ-loop
+sub-n c = search needs
 
-returns-3 : tie.Need-returns-3
-returns-3 c =
-    c .power .ensures
-    ∙ product-logs _ _ _ _ (c .before .before .logarithm .ensures .1 .0 (search needs)) (c .before .logarithm2 .ensures .1 .0 (search needs))
+loop-less : tie.Need-loop-less Inv-loop μ-loop
+loop-less c = search needs
+
+loop-again : tie.Need-loop-again Inv-loop μ-loop
+unfolding _⊕_
+loop-again c =
+    let l = c .before .before .before .loop in (
+      subst (λ (x : ℕ). x < 256) (sym (c .double .ensures)) (mul-lt 2 (l .b)),
+      product-turn (l .n) _ (l .sum) (l .a) (l .b) _ _ (search needs) (l .inv .0) (l .inv .1) (c .before .low-times .ensures) (c .double .ensures),
+    )
+
+returns : tie.Need-returns Inv-loop μ-loop
+returns c = product-done _ _ _ _ _ (search needs) (c .before .loop .inv .1)
 
 pub product-spec : {M : Type 1} → statement M
 product-spec =
     tie.close
     (tie.spec
-    returns
-    returns-2
-    logarithm-requires
-    logarithm-requires-2
-    add-n
-    power-requires
-    returns-3)
+    Inv-loop
+    μ-loop
+    loop-holds
+    low-times-requires
+    double-requires
+    sub-n
+    loop-less
+    loop-again
+    returns)

@@ -1,7 +1,7 @@
 /* Times `matrix::apply` (through a crate that bench/run writes) against ISA-L's product of the same matrix and columns: batches take turns, and the medians
  * of their CPU times count. Where bench/run gives it the same code compiled for the machine at hand, that takes turns too. ISA-L's
  * tables are made before the clock starts; ours works out the numbers of its sums in every call. First random matrices times random
- * windows of columns must give ISA-L's bytes. Exit: 0, or 1 for a difference. */
+ * windows of columns with any numbers, distinct or not, must give ISA-L's bytes. Exit: 0, or 1 for a difference. */
 #define _POSIX_C_SOURCE 200809L
 #include <isa-l/erasure_code.h>
 #include <stdint.h>
@@ -10,10 +10,10 @@
 #include <string.h>
 #include <time.h>
 
-enum { ROWS = 16, COLUMNS = 255, PLACES = 4096 };
+enum { ROWS = 16, COLUMNS = 255, PLACES = 4096, NUMBERS = 256 };
 enum { ROUNDS = 31, BATCH = 4 << 20, SHAPES = 500 };           /* a batch forms BATCH products of bytes, or one call's */
 
-typedef void apply(uint64_t rows, uint64_t m, const uint8_t *matrix, size_t matrix_len, const uint8_t *columns, size_t columns_len,
+typedef void apply(uint64_t rows, const uint8_t *at, size_t at_len, const uint8_t *matrix, size_t matrix_len, const uint8_t *columns, size_t columns_len,
                    uint64_t from, uint64_t stride, uint64_t count, uint8_t *out, size_t out_len);
 apply timed_apply, native_timed_apply;
 #ifdef NATIVE
@@ -25,27 +25,30 @@ enum { OURS = sizeof ours / sizeof *ours, ISAL = OURS, SIDES };
 
 static uint8_t columns[COLUMNS * PLACES] __attribute__((aligned(4096))), out[ROWS * PLACES] __attribute__((aligned(4096)));
 static uint8_t theirs[ROWS * PLACES] __attribute__((aligned(4096))), matrix[ROWS * COLUMNS], tables[32 * ROWS * COLUMNS];
-static uint8_t *source[COLUMNS], *target[ROWS];
-static int rows, m, from, stride, count, failed;
+static uint8_t at[COLUMNS], *source[COLUMNS], *target[ROWS];   /* at: the numbers of the columns used */
+static int rows, m, from, stride, count, greatest, failed;
 
 static void turn(int side)
 {
     if (side == ISAL)
         ec_encode_data(count, m, rows, tables, source, target);
     else
-        ours[side]((uint64_t)rows, (uint64_t)m, matrix, (size_t)(rows * m), columns, (size_t)(from + (m - 1) * stride + count),
+        ours[side]((uint64_t)rows, at, (size_t)m, matrix, (size_t)(rows * m), columns, (size_t)(from + greatest * stride + count),
                    (uint64_t)from, (uint64_t)stride, (uint64_t)count, out, (size_t)(rows * count));
 }
 
-/* Any constants, and ISA-L's side of these numbers; all sides must give the same bytes. */
+/* Any constants, and ISA-L's side of these numbers and of those in `at`; all sides must give the same bytes. */
 static void shape(int rows_, int m_, int from_, int stride_, int count_)
 {
     rows = rows_, m = m_, from = from_, stride = stride_, count = count_;
     for (int i = 0; i < rows * m; i++)
         matrix[i] = (uint8_t)(rand() >> 7);
     ec_init_tables(m, rows, matrix, tables);
-    for (int i = 0; i < m; i++)
-        source[i] = columns + from + i * stride;
+    greatest = 0;
+    for (int i = 0; i < m; i++) {
+        source[i] = columns + from + at[i] * stride;
+        greatest = at[i] > greatest ? at[i] : greatest;
+    }
     for (int s = 0; s < rows; s++)
         target[s] = theirs + s * count;
     turn(ISAL);
@@ -72,6 +75,8 @@ static int by_size(const void *a, const void *b) { return (*(const double *)a > 
 static void contest(int r, int columns_, int l)
 {
     static double times[SIDES][ROUNDS];
+    for (int i = 0; i < columns_; i++)
+        at[i] = (uint8_t)i;
     shape(r, columns_, 0, l, l);
     int calls = 1 + BATCH / (r * columns_ * l);
     for (int round = -1; round < ROUNDS; round++)              /* the first round warms up */
@@ -95,9 +100,18 @@ int main(void)
     static const int shapes[][2] = {{16, 16}, {16, 100}, {4, 12}, {8, 20}, {1, 3}, {1, 16}, {1, 85}}, ls[] = {64, 512, 4096};
     for (size_t i = 0; i < sizeof columns; i++)
         columns[i] = (uint8_t)(rand() >> 7);
+    uint8_t numbers[NUMBERS];
+    for (int i = 0; i < NUMBERS; i++)
+        numbers[i] = (uint8_t)i;
     for (int i = 0; i < SHAPES; i++) {
-        int c = 1 + rand() % COLUMNS, n = 1 + rand() % (i % 2 == 0 ? 200 : PLACES / 4), apart = rand() % (3 * n);
-        shape(1 + rand() % ROWS, c, rand() % n, apart * c < (COLUMNS - 10) * PLACES ? apart : n, n);
+        int c = 1 + rand() % COLUMNS, n = 1 + rand() % (i % 2 == 0 ? 200 : PLACES / 4);
+        for (int j = 0; j < c; j++) {                          /* distinct in two shapes of four */
+            int k = j + rand() % (NUMBERS - j);
+            uint8_t x = numbers[k];
+            numbers[k] = numbers[j], numbers[j] = x;
+            at[j] = i % 4 < 2 ? x : (uint8_t)(rand() >> 7);
+        }
+        shape(1 + rand() % ROWS, c, rand() % n, rand() % (3 * n), n);
     }
     printf("rows columns     L  us, ours ratio to ISA-L%s\n", OURS > 1 ? ", and compiled for this machine" : "");
     for (size_t i = 0; i < sizeof shapes / sizeof *shapes; i++)

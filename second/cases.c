@@ -1,6 +1,6 @@
 /* Compares the archive with the second program, call by call: every answer, every byte of the lent buffers, and the guard bytes around
  * them. usage: cases CALLS SEED. The last line is the verdict; exit 0 where all agree and enough was covered. */
-#include "call.h"
+#include "covered.h"
 #include "random.h"
 #include "records.h"
 
@@ -9,29 +9,7 @@
 #include <stdlib.h>
 #include <string.h>
 
-enum { LINES = 11 };
-
-#define BITS_SHAPE (1 << 1 | 1 << 2)
-#define BITS_PLAN (BITS_SHAPE | 1 << 3 | 1 << 4)
-
-/* The calls that the archive has: how often each is made, and which lines of the refusal table it can give. */
-static const struct { const char *name; unsigned often, lines; } ops[OPS] = {
-    [ENCODE] = {"encode", 20, BITS_SHAPE | 1 << 5},
-    [MEND] = {"mend", 35, BITS_SHAPE | 1 << 5 | 1 << 6 | 1 << 7 | 1 << 8},
-    [FOLD] = {"fold", 20, BITS_PLAN | 1 << 5},
-    [PLAN_REFUSAL] = {"plan_refusal", 5, BITS_PLAN},
-    [PLAN_COLUMNS] = {"plan_columns_read", 5, BITS_PLAN},
-    [PLAN_BYTES] = {"plan_bytes_read", 5, BITS_PLAN},
-    [PLAN_SPANS] = {"plan_spans", 10, BITS_PLAN | 1 << 5},
-    [CHECK] = {"check", 10, BITS_SHAPE | 1 << 5 | 1 << 8},
-    [READ_RECORD] = {"read_record", 12, BITS_SHAPE | 1 << 5 | 1 << 6 | 1 << 9 | 1 << 10},
-    [WRITE_RECORD] = {"write_record", 6, BITS_SHAPE | 1 << 5 | 1 << 6},
-};
-
-static struct {
-    uint64_t calls, lines[LINES], pairs[LINES][LINES];         /* line 0: accepted. Pairs: the line given, and the next that holds too */
-} covered[OPS];
-static uint64_t shapes[4][4], kinds[3], lost_in[4][4][4], differences;      /* accepted: (r, t); A, B, C; (r, lost in data, in parity) */
+static uint64_t differences, small;                            /* small: calls of small shapes */
 
 /* ---- one case: the call, what it is lent, and what is to be seen afterwards ---- */
 
@@ -41,12 +19,26 @@ static uint8_t *const lent[LENT] = {a, b, x, y};
 
 static struct shape shape_of(void) { return (struct shape){c.num[0], c.num[1], c.num[2], c.num[3]}; }
 static struct fold fold_of(void) { return (struct fold){shape_of(), c.num[4], c.num[5]}; }
-static int holds(unsigned lines, unsigned number) { return lines >> number & 1; }
+
+static void set_numbers(struct fold w)
+{
+    memcpy(c.num, (uint64_t[6]){w.s.k, w.s.r, w.s.t, w.s.l, w.n, w.f}, sizeof c.num);
+}
+
+/* A call that is lent nothing yet. */
+static void fresh(enum op op)
+{
+    c.op = op;
+    for (int i = 0; i < LENT; i++) {
+        c.len[i] = 0;
+        c.shift[i] = below(64);
+    }
+}
 
 /* A number that a careless reader takes for `near`, or that lies at an edge of document 01's table. */
 static uint64_t hostile(uint64_t near)
 {
-    static const uint64_t edges[] = {0, 1, 2, 3, 4, 254, 255, 256, 257, 4095, 4096, 4097, (uint64_t)1 << 32, (uint64_t)1 << 63};
+    static const uint64_t edges[] = {0, 1, 2, 3, 4, 16, 17, 254, 255, 256, 257, 4095, 4096, 4097, (uint64_t)1 << 32, (uint64_t)1 << 63};
     switch (below(8)) {
     case 0: return near + 1;
     case 1: return near - 1;
@@ -59,38 +51,58 @@ static uint64_t hostile(uint64_t near)
     }
 }
 
+/* What the limits of 255 leave to the data columns: for r above 3 the parity columns count too. */
+static uint64_t room_beside(uint64_t r) { return r > 3 && r <= MAX_PARITY ? 255 - r : 255; }
+
 /* One of `count` numbers from `first` on put just past its edge, or changed anyhow, until the line holds. */
 static void spoil(unsigned number, uint64_t first, uint64_t count)
 {
     do {
-        uint64_t which = first + below(count), past[6] = {256, 4, c.num[1], 4097, c.num[0] == 0 ? 256 : 255 / c.num[0] + 1, 4};
+        uint64_t most = room_beside(c.num[1]), which = first + below(count);
+        uint64_t t = most < 255 ? 1 + below(3) : c.num[1], n = c.num[0] == 0 ? 256 : most / c.num[0] + 1, f = most < 255 ? c.num[1] - 1 : 4;
+        uint64_t past[6] = {most + 1, MAX_PARITY + 1, t, 4097, n, f};
         c.num[which] = below(3) == 0 ? past[which] : hostile(c.num[which]);
     } while (!holds(plan_lines(fold_of()), number));
+}
+
+/* A k of which some multiple, at least the third, is `all`. */
+static uint64_t divisor(uint64_t all)
+{
+    uint64_t k;
+    do
+        k = 1 + below(all / 3);
+    while (all % k != 0);
+    return k;
 }
 
 /* Allowed numbers, and then those changed that the faults 1 to 4 name; now and then any of them. The allowed ones come back. */
 static struct fold numbers(unsigned faults)
 {
     struct fold w = {any_shape(), 0, 0};
-    if (c.op == MEND && w.s.t == 0 && below(4) != 0)
+    if (c.op == MEND && w.s.r < 4 && w.s.t == 0 && below(4) != 0)
         w.s.r = 3;
-    int folds = c.op >= FOLD && c.op <= PLAN_SPANS;
-    if (folds && w.s.k > 127)
-        w.s.k = 3 + below(125);
+    int folds = c.op >= FOLD && c.op <= PLAN_SPANS, full = folds && w.s.r > 3 && below(4) == 0;
+    uint64_t all = room_beside(w.s.r);
+    if (folds && w.s.k > all / 2)
+        w.s.k = 3 + below(all / 2 - 2);
+    if (full)                                                  /* as wide as may be, or for line 3 as wide as may be and 1 more */
+        w.s.k = divisor(holds(faults, 3) ? all + 1 : all);
     if (c.op == WRITE_RECORD && below(4) != 0)
         while ((w.s.k + w.s.r) * w.s.l > MAX_RECORD)
             w.s = any_shape();
     if (folds) {
-        uint64_t most = 255 / w.s.k;
-        w.n = below(8) == 0 ? most : 2 + below(below(3) != 0 && most > 4 ? 3 : most - 1);
-        w.f = w.s.t != 0 ? w.s.t : 1 + below(3);
+        uint64_t most = all / w.s.k;
+        w.n = full || below(8) == 0 ? most : 2 + below(below(3) != 0 && most > 4 ? 3 : most - 1);
+        w.f = w.s.r > 3 ? w.s.r : w.s.t != 0 ? w.s.t : 1 + below(3);
     }
-    memcpy(c.num, (uint64_t[6]){w.s.k, w.s.r, w.s.t, w.s.l, w.n, w.f}, sizeof c.num);
+    set_numbers(w);
     if (holds(faults, 1))
         spoil(1, 0, 3);
     if (holds(faults, 2))
         spoil(2, 3, 1);
-    if (holds(faults, 3))
+    if (holds(faults, 3) && below(4) == 0)
+        c.num[0] = all / w.n + 1;
+    else if (holds(faults, 3))
         spoil(3, 4, 1);
     if (holds(faults, 4))
         spoil(4, 5, 1);
@@ -132,16 +144,10 @@ static void as_lent(void)
 }
 
 /* Makes the call and compares. */
-static void compare(unsigned lines, uint64_t answer)
+static void judge(uint64_t answer)
 {
-    uint32_t given = first_line(lines), next = first_line(lines & ~(1u << given));
     uint64_t places = 0, first = 0;
     int buffer = 0;
-    covered[c.op].calls++;
-    covered[c.op].lines[given]++;
-    covered[c.op].pairs[given][next]++;
-    if (lines == 0 && c.op != READ_RECORD)
-        shapes[c.num[1]][c.num[2]]++;
     make_call(&c, lent);
     for (int n = LENT; n-- > 0;)
         for (uint64_t i = c.len[n]; i-- > 0;)
@@ -157,6 +163,13 @@ static void compare(unsigned lines, uint64_t answer)
                " bytes lent: answer %" PRIu64 ", not %" PRIu64 "; %" PRIu64 " bytes differ, the first at %" PRIu64 " of buffer %d; %" PRIu64 " guard bytes changed\n",
                ops[c.op].name, c.num[0], c.num[1], c.num[2], c.num[3], c.num[4], c.num[5], c.len[0], c.len[1], c.len[2], c.len[3], c.answer, answer, places,
                first, buffer, c.stray);
+}
+
+/* The same, counted. */
+static void compare(unsigned lines, uint64_t answer)
+{
+    count_call(&c, lines);
+    judge(answer);
 }
 
 static void encode_case(unsigned faults)
@@ -178,11 +191,14 @@ static void encode_case(unsigned faults)
 /* Up to r positions, in every split between data and parity; fewer than r for line 8, more for line 7; out of order for line 6. */
 static size_t lost_list(struct shape s, unsigned faults, uint16_t *lost)
 {
-    uint64_t n = s.k + s.r, most = holds(faults, 8) ? s.r - 1 : s.r, one = below(4) == 0 ? most : below(most + 1), two = below(most - one + 1);
-    size_t in_data = below(2) == 0 ? one : two, in_parity = one + two - in_data;
+    uint64_t n = s.k + s.r, most = holds(faults, 8) ? s.r - 1 : s.r, one = below(5) < 2 ? most : below(most + 1), two = below(most - one + 1);
+    size_t in_data = below(2) == 0 ? one : two, in_parity = one + two - in_data, count;
     if (holds(faults, 7))
-        in_data = s.r + 1 - in_parity + below(4);
-    size_t count = any_lost(s, in_data, in_parity, lost);
+        count = any_lost_of(s, s.r + 1 + below(4), lost);
+    else if (s.r > 3)
+        count = any_lost_of(s, any_total(most), lost);
+    else
+        count = any_lost(s, in_data, in_parity, lost);
     if (!holds(faults, 6))
         return count;
     switch (count < 2 ? 2 + below(2) : below(4)) {
@@ -203,10 +219,23 @@ static int among(uint64_t position, const uint16_t *lost, size_t count)
     return count > 0;
 }
 
-/* A codeword with rubbish in its lost columns, or any bytes where r are lost; for line 8 one survivor is stale. */
+/* Columns to r in all: the lost ones, and survivors. */
+static void columns_to_spoil(struct shape s, const uint16_t *lost, size_t count, uint16_t *columns)
+{
+    memcpy(columns, lost, count * sizeof *lost);
+    while (count < s.r) {
+        uint64_t position = below(s.k + s.r);
+        if (!among(position, columns, count))
+            columns[count++] = (uint16_t)position;
+    }
+}
+
+/* A codeword with rubbish in its lost columns, or any bytes where r are lost. For line 8 one survivor is stale, or for r above 3 so many
+ * that a single check equation shows it. */
 static void stripe_to_mend(struct shape s, unsigned faults, const uint16_t *lost, size_t count)
 {
     uint64_t size = (s.k + s.r) * s.l, at;
+    uint16_t columns[MAX_PARITY];
     fill(a, c.len[0]);
     if (c.len[0] != size || (count == s.r && below(4) == 0))
         return;
@@ -214,7 +243,10 @@ static void stripe_to_mend(struct shape s, unsigned faults, const uint16_t *lost
     for (uint64_t col = 0; col < s.k + s.r; col++)
         if (among(col, lost, count))
             fill(a + col * s.l, s.l);
-    if (holds(faults, 8) && count < s.k + s.r) {
+    if (holds(faults, 8) && s.r > 3 && count < s.r && below(2) == 0) {
+        columns_to_spoil(s, lost, count, columns);
+        off_in_one_equation(s, columns, below(s.l), below(2) == 0 ? s.r - 1 : below(s.r), a);
+    } else if (holds(faults, 8) && count < s.k + s.r) {
         do
             at = below(size);
         while (among(at / s.l, lost, count));
@@ -222,17 +254,24 @@ static void stripe_to_mend(struct shape s, unsigned faults, const uint16_t *lost
     }
 }
 
-static void mend_case(unsigned faults)
+static void lend_list(const uint16_t *lost, size_t count)
 {
-    struct shape s = numbers(faults).s;
-    uint16_t lost[MAX_LOST + 2];
-    size_t count = lost_list(s, faults, lost);
-    c.len[0] = sized(c.num[0] + c.num[1], c.num[3], (s.k + s.r) * s.l);
     c.len[1] = 2 * count;
     for (size_t i = 0; i < count; i++) {
         b[2 * i] = (uint8_t)(lost[i] % 256);
         b[2 * i + 1] = (uint8_t)(lost[i] / 256);
     }
+}
+
+static void mend_case(unsigned faults)
+{
+    struct shape s = numbers(faults).s;
+    uint16_t lost[MAX_LOST + 2];
+    if (faults == 0 && s.r > 3 && below(8) == 0)
+        faults = 1 << 8;
+    size_t count = lost_list(s, faults, lost);
+    c.len[0] = sized(c.num[0] + c.num[1], c.num[3], (s.k + s.r) * s.l);
+    lend_list(lost, count);
     if (holds(faults, 5) && below(2) == 0)
         b[c.len[1]++] = (uint8_t)below(2);
     else if (holds(faults, 5))
@@ -241,10 +280,7 @@ static void mend_case(unsigned faults)
     as_lent();
     unsigned lines = mend_lines(shape_of(), a, c.len[0], b, c.len[1]);
     if (lines == 0) {
-        size_t in_data = 0;
-        for (size_t i = 0; i < count; i++)
-            in_data += lost[i] < c.num[0];
-        lost_in[c.num[1]][in_data][count - in_data]++;
+        count_mended(shape_of(), lost, count);
         mend(shape_of(), want[0], lost, count);
     }
     compare(lines, first_line(lines));
@@ -270,13 +306,23 @@ static void codewords_to_fold(struct fold w, uint8_t *wide)
     free(data);
 }
 
+static void hold_as_encoded(const uint8_t *wide)
+{
+    if (memcmp(wide, want[1], c.len[1]) != 0) {
+        differences++;
+        printf("DIFFERENCE inside the second program: a fold of codewords is not the parity of all data\n");
+    }
+}
+
 static void fold_case(unsigned faults)
 {
     struct fold w = numbers(faults);
-    static uint8_t wide[3 * 4096];
+    static uint8_t wide[MAX_PARITY * 4096];
     c.len[0] = plan_lines(fold_of()) == 0 ? bytes_read(fold_of()) : bytes_read(w);
     c.len[1] = sized(c.num[5], c.num[3], w.f * w.s.l);
-    if (holds(faults, 5))
+    if (holds(faults, 4) && holds(faults, 5))
+        c.len[1] = other_length(c.len[1]);                     /* the bytes read are not judged where f is not allowed */
+    else if (holds(faults, 5))
         spoil_a_length();
     fill(a, c.len[0]);
     fill(b, c.len[1]);
@@ -286,24 +332,33 @@ static void fold_case(unsigned faults)
         codewords_to_fold(fold_of(), wide);
     as_lent();
     if (lines == 0) {
-        kinds[kind(fold_of()) - 'A']++;
         fold(fold_of(), a, want[1]);
-        if (codewords && memcmp(wide, want[1], c.len[1]) != 0) {
-            differences++;
-            printf("DIFFERENCE inside the second program: a fold of codewords is not the parity of all data\n");
-        }
+        if (codewords)
+            hold_as_encoded(wide);
     }
     compare(lines, first_line(lines));
 }
 
-static void plan_case(unsigned faults)
+static uint64_t plan_answer(void)
 {
     struct span spans[MAX_SPANS];
-    numbers(faults);
-    c.len[0] = c.len[1] = 0;
     unsigned lines = plan_lines(fold_of());
     uint64_t refused = first_line(lines), columns = lines == 0 ? plan(fold_of(), spans) : 0, bytes = lines == 0 ? bytes_read(fold_of()) : 0;
-    compare(lines, c.op == PLAN_REFUSAL ? refused : c.op == PLAN_COLUMNS ? columns : bytes);
+    return c.op == PLAN_REFUSAL ? refused : c.op == PLAN_COLUMNS ? columns : bytes;
+}
+
+static void plan_case(unsigned faults)
+{
+    numbers(faults);
+    compare(plan_lines(fold_of()), plan_answer());
+}
+
+static void lend_spans(size_t room)
+{
+    c.shift[0] &= ~(uint64_t)3;                                /* a span's alignment */
+    c.len[0] = room * sizeof(struct span);
+    fill(a, c.len[0]);
+    as_lent();
 }
 
 static void spans_case(unsigned faults)
@@ -313,31 +368,39 @@ static void spans_case(unsigned faults)
     size_t count = plan(plan_lines(fold_of()) == 0 ? fold_of() : w, spans), room = count + below(3) * below(3);
     if (holds(faults, 5))
         room = below(2) == 0 ? 0 : below(count);
-    c.shift[0] &= ~(uint64_t)3;                                 /* a span's alignment */
-    c.len[0] = room * sizeof *spans;
-    c.len[1] = 0;
-    fill(a, c.len[0]);
-    as_lent();
+    lend_spans(room);
     unsigned lines = spans_lines(fold_of(), room);
     if (lines == 0)
         memcpy(want[0], spans, count * sizeof *spans);
     compare(lines, first_line(lines));
 }
 
-/* A codeword, or one with up to three bytes changed. The first parity byte that is not by definition is named, column and then place. */
-static void check_case(unsigned faults)
+static void lend_to_check(void)
 {
-    static uint8_t by_definition[3 * 4096];
-    struct shape s = numbers(faults).s;
-    c.len[0] = sized(c.num[0], c.num[3], s.k * s.l);
-    c.len[1] = sized(c.num[1], c.num[3], s.r * s.l);
     c.len[2] = c.len[3] = 4;
     c.shift[2] &= ~(uint64_t)3;
     c.shift[3] &= ~(uint64_t)3;
-    if (holds(faults, 5))
-        spoil_a_length();
     for (int i = 0; i < LENT; i++)
         fill(lent[i], c.len[i]);
+}
+
+/* Parity byte i is named. */
+static void want_place(uint64_t i)
+{
+    memcpy(want[2], &(uint32_t){(uint32_t)(i / c.num[3])}, 4);
+    memcpy(want[3], &(uint32_t){(uint32_t)(i % c.num[3])}, 4);
+}
+
+/* A codeword, or one with up to three bytes changed. The first parity byte that is not by definition is named, column and then place. */
+static void check_case(unsigned faults)
+{
+    static uint8_t by_definition[MAX_PARITY * 4096];
+    struct shape s = numbers(faults).s;
+    c.len[0] = sized(c.num[0], c.num[3], s.k * s.l);
+    c.len[1] = sized(c.num[1], c.num[3], s.r * s.l);
+    if (holds(faults, 5))
+        spoil_a_length();
+    lend_to_check();
     unsigned lines = encode_lines(shape_of(), c.len[0], c.len[1]);
     if (lines == 0 && (holds(faults, 8) || below(8) != 0))
         encode(shape_of(), a, b);
@@ -349,8 +412,7 @@ static void check_case(unsigned faults)
         for (uint64_t i = c.len[1]; i-- > 0;)
             if (b[i] != by_definition[i]) {
                 lines = 1 << 8;
-                memcpy(want[2], &(uint32_t){(uint32_t)(i / c.num[3])}, 4);
-                memcpy(want[3], &(uint32_t){(uint32_t)(i % c.num[3])}, 4);
+                want_place(i);
             }
     }
     compare(lines, first_line(lines));
@@ -386,6 +448,7 @@ static void read_case(unsigned faults)
         memcpy(want[2], lost, 2 * count);
         memcpy(want[3], (uint64_t[5]){s.k, s.r, s.t, s.l, count}, 5 * 8);
     }
+    set_numbers((struct fold){answer == 0 ? s : (struct shape){0, 0, 0, 0}, 0, 0});
     compare(answer == 0 ? 0 : 1u << answer, answer);
 }
 
@@ -429,6 +492,138 @@ static void write_case(unsigned faults)
     compare(lines, first_line(lines));
 }
 
+/* ---- every small shape of r from 4 to 6 ---- */
+
+enum { SMALL_K = 6, SMALL_R = 6, SMALL_L = 2 };
+
+static void small_call(enum op op, struct fold w)
+{
+    fresh(op);
+    set_numbers(w);
+    small++;
+}
+
+/* One data column that is not zero, each in turn, and then any bytes. */
+static void small_encodes(struct shape s)
+{
+    for (uint64_t i = 0; i <= s.k; i++) {
+        small_call(ENCODE, (struct fold){s, 0, 0});
+        c.len[0] = s.k * s.l;
+        c.len[1] = s.r * s.l;
+        memset(a, 0, c.len[0]);
+        fill(i < s.k ? a + i * s.l : a, i < s.k ? s.l : c.len[0]);
+        fill(b, c.len[1]);
+        as_lent();
+        encode(s, a, want[1]);
+        judge(0);
+    }
+}
+
+/* Parity bytes off from each one on, and then none. */
+static void small_checks(struct shape s)
+{
+    for (uint64_t at = 0; at <= s.r * s.l; at++) {
+        small_call(CHECK, (struct fold){s, 0, 0});
+        c.len[0] = s.k * s.l;
+        c.len[1] = s.r * s.l;
+        lend_to_check();
+        encode(s, a, b);
+        for (uint64_t i = at; i < c.len[1]; i++)
+            b[i] ^= (uint8_t)(i == at ? 1 + below(255) : below(256));
+        as_lent();
+        if (at < c.len[1])
+            want_place(at);
+        judge(at < c.len[1] ? 8 : 0);
+    }
+}
+
+static void small_mend(struct shape s, unsigned faults, const uint16_t *lost, size_t count)
+{
+    small_call(MEND, (struct fold){s, 0, 0});
+    c.len[0] = (s.k + s.r) * s.l;
+    lend_list(lost, count);
+    stripe_to_mend(s, faults, lost, count);
+    as_lent();
+    unsigned lines = mend_lines(s, a, c.len[0], b, c.len[1]);
+    if (lines == 0)
+        mend(s, want[0], lost, count);
+    judge(first_line(lines));
+}
+
+/* Every list of up to r + 1 lost columns, with the survivors of a codeword, and with stale ones among them. */
+static void small_mends(struct shape s)
+{
+    for (unsigned set = 0; set < 1u << (s.k + s.r); set++) {
+        uint16_t lost[MAX_LOST];
+        size_t count = 0;
+        for (uint64_t position = 0; position < s.k + s.r; position++)
+            if (set >> position & 1)
+                lost[count++] = (uint16_t)position;
+        if (count > s.r + 1)
+            continue;
+        small_mend(s, 0, lost, count);
+        small_mend(s, 1 << 8, lost, count);
+    }
+}
+
+static void small_fold(struct fold w, int codewords)
+{
+    uint8_t wide[SMALL_R * SMALL_L];
+    small_call(FOLD, w);
+    c.len[0] = bytes_read(w);
+    c.len[1] = w.f * w.s.l;
+    fill(a, c.len[0]);
+    fill(b, c.len[1]);
+    if (codewords)
+        codewords_to_fold(w, wide);
+    as_lent();
+    fold(w, a, want[1]);
+    if (codewords)
+        hold_as_encoded(wide);
+    judge(0);
+}
+
+static void small_spans(struct fold w)
+{
+    struct span spans[MAX_SPANS];
+    size_t count = plan(w, spans);
+    small_call(PLAN_SPANS, w);
+    lend_spans(count);
+    memcpy(want[0], spans, count * sizeof *spans);
+    judge(0);
+}
+
+/* Two to nine stripes, as many as may be, and one more; every f. */
+static void small_folds(struct shape s)
+{
+    uint64_t most = room_beside(s.r) / s.k;
+    for (uint64_t n = 2; n <= most + 1; n = n < 9 || n >= most ? n + 1 : most)
+        for (uint64_t f = 0; f <= MAX_PARITY + 1; f++) {
+            struct fold w = {s, n, f};
+            for (enum op op = PLAN_REFUSAL; op <= PLAN_BYTES; op++) {
+                small_call(op, w);
+                judge(plan_answer());
+            }
+            if (plan_lines(w) == 0) {
+                small_spans(w);
+                small_fold(w, 0);
+                small_fold(w, 1);
+            }
+        }
+}
+
+static void small_shapes(void)
+{
+    struct shape s = {0, 0, 0, SMALL_L};
+    for (s.r = 4; s.r <= SMALL_R; s.r++)
+        for (s.k = 1; s.k <= SMALL_K; s.k++) {
+            small_encodes(s);
+            small_checks(s);
+            small_mends(s);
+            small_folds(s);
+        }
+}
+
 /* ---- all cases ---- */
 
 /* None, or a line that the call can give, or two lines that are neighbours in the order. */
@@ -447,15 +642,13 @@ static unsigned any_faults(unsigned lines)
 static void one_case(void)
 {
     uint64_t all = 0, turn;
-    for (int op = 0; op < OPS; op++)
-        all += ops[op].often;
+    for (int i = 0; i < OPS; i++)
+        all += ops[i].often;
     turn = below(all);
-    for (c.op = 0; turn >= ops[c.op].often; c.op++)
-        turn -= ops[c.op].often;
-    for (int i = 0; i < LENT; i++) {
-        c.len[i] = 0;
-        c.shift[i] = below(64);
-    }
+    enum op op = ENCODE;
+    for (; turn >= ops[op].often; op++)
+        turn -= ops[op].often;
+    fresh(op);
     unsigned faults = any_faults(ops[c.op].lines);
     switch (c.op) {
     case ENCODE: encode_case(faults); break;
@@ -469,100 +662,20 @@ static void one_case(void)
     }
 }
 
-/* ---- the table ---- */
-
-static uint64_t calls, missing;
-
-/* A count of the table, marked where it is below its floor. Floors are for 100,000 calls; with fewer they are half of their share. */
-static void show(const char *what, uint64_t count, uint64_t least)
-{
-    least = calls < 100000 ? least * calls / 200000 : least;
-    printf("  %s %" PRIu64 "%s", what, count, count < least ? " (TOO FEW)" : "");
-    missing += count < least;
-}
-
-static void table(void)
-{
-    unsigned possible = 0;
-    uint64_t accepted = 0, given[LINES] = {0}, pairs[LINES][LINES] = {{0}}, in_data[4] = {0}, in_parity[4] = {0};
-    char what[32];
-    printf("%-18s %9s %9s", "call", "calls", "accepted");
-    for (int n = 1; n < LINES; n++)
-        printf("%*s%d", n < 10 ? 8 : 7, "ref. ", n);
-    for (int op = 0; op < OPS; op++) {
-        if (ops[op].often == 0)
-            continue;
-        possible |= ops[op].lines;
-        accepted += covered[op].lines[0];
-        printf("\n%-18s %9" PRIu64 " %9" PRIu64, ops[op].name, covered[op].calls, covered[op].lines[0]);
-        for (int n = 1; n < LINES; n++) {
-            printf("%9" PRIu64, covered[op].lines[n]);
-            given[n] += covered[op].lines[n];
-            for (int m = n + 1; m < LINES; m++)
-                pairs[n][m] += covered[op].pairs[n][m];
-        }
-    }
-    printf("\naccepted:");
-    show("", accepted, 50000);
-    printf("\nrefusals given:");
-    for (int n = 1; n < LINES; n++)
-        if (holds(possible, (unsigned)n))
-            show((sprintf(what, "%d:", n), what), given[n], n < 9 ? 1000 : 500);
-    printf("\nneighbours that both hold, the first given:");
-    for (int n = 1; n < LINES; n++)
-        for (int m = n + 1; m < LINES; m++) {
-            int neighbours = 0;
-            for (int op = 0; op < OPS; op++)
-                neighbours |= op != READ_RECORD && holds(ops[op].lines, (unsigned)n) && holds(ops[op].lines, (unsigned)m) && (ops[op].lines >> (n + 1) & ((1u << (m - n - 1)) - 1)) == 0;
-            if (neighbours && m != 8)                          /* a stripe of another length, or with more than r lost, is not judged */
-                show((sprintf(what, "%d,%d:", n, m), what), pairs[n][m], 1000);
-        }
-    printf("\naccepted (r,t):");
-    for (int r = 1; r < 4; r++)
-        for (int t = 0; t < 4; t++)
-            if (t == 0 || t > r)
-                show((sprintf(what, "(%d,%d):", r, t), what), shapes[r][t], 1000);
-    if (ops[FOLD].often != 0) {
-        printf("\nfolds of kind");
-        for (int n = 0; n < 3; n++)
-            show((sprintf(what, "%c:", 'A' + n), what), kinds[n], 1000);
-    }
-    if (ops[MEND].often != 0) {
-        printf("\nmended, r: lost in data + in parity:");
-        for (int r = 1; r < 4; r++)
-            for (int d = 0; d <= r; d++)
-                for (int p = 0; p + d <= r; p++) {
-                    show((sprintf(what, "%d:%d+%d:", r, d, p), what), lost_in[r][d][p], 100);
-                    in_data[d] += lost_in[r][d][p];
-                    in_parity[p] += lost_in[r][d][p];
-                }
-        printf("\nlost in data:");
-        for (int n = 0; n < 4; n++)
-            show((sprintf(what, "%d:", n), what), in_data[n], 1000);
-        printf("\nlost in parity:");
-        for (int n = 0; n < 4; n++)
-            show((sprintf(what, "%d:", n), what), in_parity[n], 1000);
-    }
-    printf("\n");
-    printf("records through the program:");
-    for (int n = 0; n < 11; n++)
-        if (n != 3 && n != 4)
-            show(n == 0 ? "mended:" : (sprintf(what, "%d:", n), what), record_answers[n], n > 8 ? 1000 : 50);
-    show("in a process each:", records_alone, 500);
-    printf("\n");
-}
-
 int main(int argc, char **argv)
 {
-    uint64_t from = argc > 2 ? strtoull(argv[2], NULL, 0) : 1;
-    calls = argc > 1 ? strtoull(argv[1], NULL, 0) : 100000;
+    uint64_t from = argc > 2 ? strtoull(argv[2], NULL, 0) : 1, calls = argc > 1 ? strtoull(argv[1], NULL, 0) : 100000;
     seed(from);
     setvbuf(stdout, NULL, _IOLBF, 0);                          /* a call that does not come back leaves the lines before it */
     differences = (uint64_t)worked();
+    if (MAX_PARITY > 3)
+        small_shapes();
     for (uint64_t i = 0; i < calls; i++)
         one_case();
     differences += compare_records(calls / 20);
-    table();
+    uint64_t missing = table(calls);
+    if (MAX_PARITY > 3)
+        printf("small shapes, r from 4 to 6: %" PRIu64 " calls\n", small);
     printf("second: %" PRIu64 " calls, seed %" PRIu64 ": %" PRIu64 " differences, %" PRIu64 " counts too low: %s\n", calls, from, differences, missing,
            differences + missing == 0 ? "AGREED" : "FAILED");
     return differences + missing != 0;

@@ -46,34 +46,10 @@ static void add_row(uint8_t w, uint64_t j, uint64_t k, const uint8_t *m, size_t 
         add(times(w, power_of_g(i * j)), m + i * l, len, out);
 }
 
-/* ---- stripes ---- */
+/* ---- equations: Gaussian elimination ---- */
 
-static uint64_t runs_of(struct shape s) { return s.t == 0 ? 1 : s.t; }
-
-void encode(struct shape s, const uint8_t *data, uint8_t *parity)
-{
-    uint64_t runs = runs_of(s), len = s.l / runs;
-    memset(parity, 0, s.r * s.l);
-    for (uint64_t i = 0; i < s.r; i++)
-        for (uint64_t j = 0; j < runs; j++) {
-            uint8_t *here = parity + i * s.l + j * len;
-            add_row(1, i, s.k, data + j * len, s.l, len, here);
-            if (j >= s.r)
-                add_row(1, j, s.k, data + i * len, s.l, len, here);
-        }
-}
-
-/* Stored parity plus the parity by definition: r*L bytes, all zero for a codeword and no other stripe. */
-static void disagreement(struct shape s, const uint8_t *stripe, uint8_t *out)
-{
-    encode(s, stripe, out);
-    add(1, stripe + s.k * s.l, s.r * s.l, out);
-}
-
-/* ---- mending: Gaussian elimination over the definition ---- */
-
-enum { MOST = 9 };                                             /* three columns of three runs: unknowns, and equations, at one place */
-typedef uint8_t matrix[MOST][MOST + 1];
+enum { MOST = MAX_PARITY > 9 ? MAX_PARITY : 9 };               /* unknowns, and equations, at one place; three columns of three runs are 9 */
+typedef uint8_t matrix[MOST][MOST];
 
 static uint8_t inverse(uint8_t a)
 {
@@ -83,9 +59,24 @@ static uint8_t inverse(uint8_t a)
     return b;
 }
 
-/* Solves `eqs` equations in `vars` unknowns, the right side in column `vars`. The solution then stands there, unknown v in row v.
- * 0 where there is none. */
-static int solve(matrix m, size_t eqs, size_t vars)
+static void exchange(uint8_t *a, uint8_t *b, size_t len)
+{
+    for (size_t p = 0; p < len; p++) {
+        uint8_t kept = a[p];
+        a[p] = b[p];
+        b[p] = kept;
+    }
+}
+
+static void scale(uint8_t w, uint8_t *m, size_t len)
+{
+    for (size_t p = 0; p < len; p++)
+        m[p] = times(w, m[p]);
+}
+
+/* Solves `eqs` equations in `vars` unknowns at `len` places: equation e has its coefficients in m[e] and its right sides from
+ * right + e * len on. The solution then stands there, unknown v from right + v * len on. 0 where a place has none. */
+static int solve(matrix m, size_t eqs, size_t vars, uint8_t *right, size_t len)
 {
     for (size_t v = 0; v < vars; v++) {
         size_t pivot = v;
@@ -95,26 +86,66 @@ static int solve(matrix m, size_t eqs, size_t vars)
             fprintf(stderr, "second: two codewords agree on k columns\n");
             exit(2);
         }
-        for (size_t c = 0; c <= vars; c++) {
-            uint8_t swap = m[pivot][c];
-            m[pivot][c] = m[v][c];
-            m[v][c] = swap;
-        }
+        exchange(m[pivot], m[v], vars);
+        exchange(right + pivot * len, right + v * len, len);
         uint8_t by = inverse(m[v][v]);
-        for (size_t c = 0; c <= vars; c++)
-            m[v][c] = times(by, m[v][c]);
-        for (size_t e = 0; e < eqs; e++)
-            if (e != v && m[e][v] != 0)
-                add(m[e][v], m[v], vars + 1, m[e]);
+        scale(by, m[v], vars);
+        scale(by, right + v * len, len);
+        for (size_t e = 0; e < eqs; e++) {
+            uint8_t w = m[e][v];
+            if (e == v || w == 0)
+                continue;
+            add(w, m[v], vars, m[e]);
+            add(w, right + v * len, len, right + e * len);
+        }
     }
-    for (size_t e = vars; e < eqs; e++)
-        if (m[e][vars] != 0)
+    for (size_t i = vars * len; i < eqs * len; i++)
+        if (right[i] != 0)
             return 0;
     return 1;
 }
 
+/* ---- stripes ---- */
+
+static uint64_t runs_of(struct shape s) { return s.t == 0 ? 1 : s.t; }
+
+/* Whether parity is given by check equations (document 02, request 6), not by rows. */
+static int by_checks(struct shape s) { return MAX_PARITY > 3 && s.r > 3; }
+
+/* out[e] += point^e times the column, for every e below r. */
+static void add_checks(uint8_t point, uint64_t r, const uint8_t *column, size_t l, uint8_t *out)
+{
+    uint8_t w = 1;
+    for (uint64_t e = 0; e < r; e++) {
+        add(w, column, l, out + e * l);
+        w = times(w, point);
+    }
+}
+
+/* Sum e of the check equations, for every e below r, over the first columns of a stripe. Data column i has the point g^i, parity
+ * column j the point g^(254-j). */
+static void check_sums(struct shape s, uint64_t columns, const uint8_t *stripe, uint8_t *out)
+{
+    memset(out, 0, s.r * s.l);
+    for (uint64_t c = 0; c < columns; c++)
+        add_checks(power_of_g(c < s.k ? c : 254 - (c - s.k)), s.r, stripe + c * s.l, s.l, out);
+}
+
+/* Bytes that are all zero for a codeword and for no other stripe, r*L of them: the sums of the check equations, or the stored parity
+ * plus the parity by definition. */
+static void disagreement(struct shape s, const uint8_t *stripe, uint8_t *out)
+{
+    if (by_checks(s)) {
+        check_sums(s, s.k + s.r, stripe, out);
+    } else {
+        encode(s, stripe, out);
+        add(1, stripe + s.k * s.l, s.r * s.l, out);
+    }
+}
+
 /* The equations at one place: unknown v*runs + b is run b of lost column v, equation i*runs + j says that parity column i agrees in
- * run j. An unknown's coefficients are the disagreement of the stripe of one place that is 1 there and 0 elsewhere. */
+ * run j, or equation i is check equation i. An unknown's coefficients are the disagreement of the stripe of one place that is 1 there
+ * and 0 elsewhere. */
 static void coefficients(struct shape s, const uint16_t *lost, size_t count, matrix m)
 {
     struct shape one = {s.k, s.r, s.t, runs_of(s)};
@@ -129,32 +160,73 @@ static void coefficients(struct shape s, const uint16_t *lost, size_t count, mat
         }
 }
 
+/* The r parity columns that have these sums, in their place. */
+static void parity_of_sums(uint64_t r, size_t l, uint8_t *sums)
+{
+    struct shape no_data = {0, r, 0, l};
+    uint16_t all[MOST];
+    matrix m;
+    for (uint64_t j = 0; j < r; j++)
+        all[j] = (uint16_t)j;
+    coefficients(no_data, all, r, m);
+    solve(m, r, r, sums, l);
+}
+
+static void encode_rows(struct shape s, const uint8_t *data, uint8_t *parity)
+{
+    uint64_t runs = runs_of(s), len = s.l / runs;
+    memset(parity, 0, s.r * s.l);
+    for (uint64_t i = 0; i < s.r; i++)
+        for (uint64_t j = 0; j < runs; j++) {
+            uint8_t *here = parity + i * s.l + j * len;
+            add_row(1, i, s.k, data + j * len, s.l, len, here);
+            if (j >= s.r)
+                add_row(1, j, s.k, data + i * len, s.l, len, here);
+        }
+}
+
+/* A check equation's sum over the parity columns is that over the data columns. */
+void encode(struct shape s, const uint8_t *data, uint8_t *parity)
+{
+    if (by_checks(s)) {
+        check_sums(s, s.k, data, parity);
+        parity_of_sums(s.r, s.l, parity);
+    } else {
+        encode_rows(s, data, parity);
+    }
+}
+
+/* ---- mending ---- */
+
 int mend(struct shape s, uint8_t *stripe, const uint16_t *lost, size_t count)
 {
     uint64_t runs = runs_of(s), len = s.l / runs, size = (s.k + s.r) * s.l;
     size_t vars = count * runs, eqs = s.r * runs;
     uint8_t *whole = malloc(size), *d = malloc(s.r * s.l);
-    matrix equations = {{0}}, m;
-    int found = 1;
+    matrix m;
 
     memcpy(whole, stripe, size);
     for (size_t v = 0; v < count; v++)
         memset(whole + lost[v] * s.l, 0, s.l);
     disagreement(s, whole, d);
-    coefficients(s, lost, count, equations);
-    for (uint64_t q = 0; found && q < len; q++) {
-        memcpy(m, equations, sizeof m);
-        for (size_t e = 0; e < eqs; e++)
-            m[e][vars] = d[e / runs * s.l + e % runs * len + q];
-        found = solve(m, eqs, vars);
-        for (size_t v = 0; found && v < vars; v++)
-            whole[lost[v / runs] * s.l + v % runs * len + q] = m[v][vars];
-    }
-    if (found)
-        memcpy(stripe, whole, size);
+    coefficients(s, lost, count, m);
+    int found = solve(m, eqs, vars, d, len);
+    for (size_t v = 0; found && v < vars; v++)
+        memcpy(stripe + lost[v / runs] * s.l + v % runs * len, d + v * len, len);
     free(whole);
     free(d);
     return found ? 0 : 8;
+}
+
+void off_in_one_equation(struct shape s, const uint16_t *columns, uint64_t place, uint64_t number, uint8_t *stripe)
+{
+    uint8_t off[MOST] = {0};
+    matrix m;
+    coefficients(s, columns, s.r, m);
+    off[number] = 1;
+    solve(m, s.r, s.r, off, 1);
+    for (uint64_t v = 0; v < s.r; v++)
+        stripe[columns[v] * s.l + place] ^= off[v];
 }
 
 /* ---- the plan and the fold ---- */
@@ -195,20 +267,11 @@ size_t bytes_read(struct fold w)
     return bytes;
 }
 
-/* The bytes read are put where they came from, in stripes whose other bytes are rubbish; then document 01's sums, stripe by stripe. */
-void fold(struct fold w, const uint8_t *read, uint8_t *parity)
+/* Document 01's sums, stripe by stripe. */
+static void fold_rows(struct fold w, const uint8_t *stripes, uint8_t *parity)
 {
     struct shape s = w.s;
-    struct span spans[MAX_SPANS];
-    size_t count = plan(w, spans), size = (s.k + s.r) * s.l;
-    uint8_t *stripes = malloc(w.n * size);
-
-    memset(stripes, 0xEE, w.n * size);
-    for (size_t i = 0; i < count; i++) {
-        memcpy(stripes + spans[i].stripe * size + spans[i].position * s.l + spans[i].first, read, spans[i].length);
-        read += spans[i].length;
-    }
-    memset(parity, 0, w.f * s.l);
+    size_t size = (s.k + s.r) * s.l;
     for (uint64_t l = 0; l < w.n; l++)
         for (uint64_t j = 0; j < w.f; j++) {
             const uint8_t *data = stripes + l * size, *narrow = data + s.k * s.l;
@@ -231,6 +294,48 @@ void fold(struct fold w, const uint8_t *read, uint8_t *parity)
                     }
                 }
         }
+}
+
+/* The new parity's sums, and then that parity. Kind A: sum e is the sum over the stripes l of g^(k*l*e) times that of stripe l's
+ * parity. Kind C: it is that of all the data in order. */
+static void fold_checks(struct fold w, const uint8_t *stripes, uint8_t *parity)
+{
+    struct shape s = w.s, no_data = {0, s.r, 0, s.l};
+    size_t size = (s.k + s.r) * s.l;
+    uint8_t *sums = malloc(s.r * s.l);
+    for (uint64_t l = 0; l < w.n; l++) {
+        const uint8_t *data = stripes + l * size;
+        if (kind(w) == 'A') {
+            check_sums(no_data, s.r, data + s.k * s.l, sums);
+            for (uint64_t e = 0; e < s.r; e++)
+                add(power_of_g(s.k * l * e), sums + e * s.l, s.l, parity + e * s.l);
+        } else {
+            for (uint64_t i = 0; i < s.k; i++)
+                add_checks(power_of_g(s.k * l + i), s.r, data + i * s.l, s.l, parity);
+        }
+    }
+    parity_of_sums(s.r, s.l, parity);
+    free(sums);
+}
+
+/* The bytes read are put where they came from, in stripes whose other bytes are rubbish. */
+void fold(struct fold w, const uint8_t *read, uint8_t *parity)
+{
+    struct shape s = w.s;
+    struct span spans[MAX_SPANS];
+    size_t count = plan(w, spans), size = (s.k + s.r) * s.l;
+    uint8_t *stripes = malloc(w.n * size);
+
+    memset(stripes, 0xEE, w.n * size);
+    for (size_t i = 0; i < count; i++) {
+        memcpy(stripes + spans[i].stripe * size + spans[i].position * s.l + spans[i].first, read, spans[i].length);
+        read += spans[i].length;
+    }
+    memset(parity, 0, w.f * s.l);
+    if (by_checks(s))
+        fold_checks(w, stripes, parity);
+    else
+        fold_rows(w, stripes, parity);
     free(stripes);
 }
 
@@ -251,9 +356,10 @@ uint32_t first_line(unsigned lines)
 
 unsigned shape_lines(struct shape s)
 {
-    int k = s.k >= 1 && s.k <= 255, r = s.r >= 1 && s.r <= 3, t = s.t == 0 || (s.r < s.t && s.t <= 3 && s.t <= s.k);
+    int k = s.k >= 1 && s.k <= 255, r = s.r >= 1 && s.r <= MAX_PARITY, t = s.t == 0 || (s.r < s.t && s.t <= 3 && s.t <= s.k);
     int l = s.l >= 1 && s.l <= 4096 && (s.t == 0 || s.l % s.t == 0);
-    return line(1, !(k && r && t)) | line(2, !l);
+    int points = !by_checks(s) || (s.t == 0 && s.k + s.r <= 255);      /* for every position another */
+    return line(1, !(k && r && t && points)) | line(2, !l);
 }
 
 unsigned encode_lines(struct shape s, size_t data_len, size_t parity_len)
@@ -288,8 +394,9 @@ unsigned mend_lines(struct shape s, const uint8_t *stripe, size_t stripe_len, co
 
 unsigned plan_lines(struct fold w)
 {
-    int n = w.n >= 2 && w.n <= 255 && (w.s.k > 255 || w.n * w.s.k <= 255);
-    int f = w.f >= 1 && w.f <= 3 && (w.s.t == 0 || w.f == w.s.t);
+    uint64_t beside = by_checks(w.s) && w.s.r <= MAX_PARITY ? w.s.r : 0;       /* positions that count beside the data columns */
+    int n = w.n >= 2 && w.n <= 255 && (w.s.k > 255 || w.n * w.s.k + beside <= 255);
+    int f = by_checks(w.s) ? w.f == w.s.r : w.f >= 1 && w.f <= 3 && (w.s.t == 0 || w.f == w.s.t);
     return shape_lines(w.s) | line(3, !n) | line(4, !f);
 }
 

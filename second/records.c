@@ -11,7 +11,7 @@
 #define FOLDER "target/second/records"
 enum { BLOCK = 20 };
 
-uint64_t record_answers[11], records_alone;
+uint64_t record_answers[11], records_by_checks, records_alone;
 
 uint8_t rec[1 << 18];
 
@@ -33,17 +33,15 @@ static size_t replace_front(size_t len, size_t old, const uint8_t *front, size_t
 
 static uint32_t edge(void)
 {
-    static const uint32_t edges[] = {0, 1, 2, 3, 4, 127, 128, 255, 256, 257, 4096, 4097, 0xFFFFFFFF};
+    static const uint32_t edges[] = {0, 1, 2, 3, 4, 16, 17, 127, 128, 255, 256, 257, 4096, 4097, 0xFFFFFFFF};
     return below(4) == 0 ? (uint32_t)any() >> below(32) : edges[below(sizeof edges / sizeof *edges)];
 }
 
 /* A lost list: up to r positions; fewer for 8, more for 7; out of order, past the end, or too long for 6. */
 static size_t lost_list(struct shape s, int due, uint16_t *lost)
 {
-    size_t most = due == 8 ? s.r - 1 : s.r, in_parity = below(most + 1), in_data = below(most - in_parity + 1);
-    if (due == 7)
-        in_data = s.r + 1 - in_parity + below(s.k);
-    size_t count = any_lost(s, in_data, in_parity, lost);
+    size_t total = due == 7 ? s.r + 1 + below(s.k) : any_total(due == 8 ? s.r - 1 : s.r);
+    size_t count = any_lost_of(s, total, lost);
     if (due == 6 && count > 0 && below(2) == 0)
         lost[below(count)] = (uint16_t)(below(2) == 0 ? s.k + s.r : lost[count - 1]), lost[count++] = (uint16_t)(s.k + s.r - 1);
     else if (due == 6)
@@ -72,6 +70,8 @@ size_t any_record(int due)
     switch (due) {
     case 1:
         *(below(3) == 0 ? &other.k : below(2) == 0 ? &other.r : &other.t) = edge();
+        if (s.r > 3 && below(2) == 0)
+            other = (struct shape){below(2) == 0 ? s.k : 256 - s.r, s.r, below(4), s.l};
         return replace_front(len, head, front, shape_numbers(other, front));
     case 2:
         other.l = edge();
@@ -129,9 +129,11 @@ uint64_t compare_records(uint64_t count)
         size_t ends[BLOCK], end = 0;
         for (unsigned i = 0; i < BLOCK; i++) {
             size_t len = any_record(dues[i]), size = program_text(rec, len, want);
-            unsigned refused = 0;
+            unsigned refused = 0, r = 0;
             sscanf(want, "refused %u", &refused);
+            sscanf(want, "stripe %*u %u", &r);
             record_answers[refused]++;
+            records_by_checks += r > 3;
             keep_record(i, len);
             memcpy(wants + end, want, size);
             ends[i] = end += size;

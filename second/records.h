@@ -13,6 +13,7 @@ extern uint8_t rec[1 << 18];
 uint64_t compare_records(uint64_t count);
 
 extern uint64_t record_answers[11];                            /* how often each refusal was due; 0: mended */
+extern uint64_t records_by_checks;                             /* how many of those mended have r above 3 */
 extern uint64_t records_alone;                                 /* how many records had a process of their own */
 
 #endif

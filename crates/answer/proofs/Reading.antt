@@ -45,7 +45,7 @@ module _ (bs : List ℕ) (a b : ℕ) (z : readRefusal bs a b ≡ 0) where
   read-says = accepted bs content
 
   pub count-most : countOf bs ≤ 258
-  count-most = let s = read-says in omega (arith, s .few, s .shape-allowed .data-most, s .shape-allowed .parity-most)
+  count-most = let s = read-says in omega (arith, s .few, s .shape-allowed .columns-most)
 
   pub read-shaped : shapeRefusal (shapeRead bs) ≡ 0
   unfolding stripeRefusal

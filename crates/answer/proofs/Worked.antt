@@ -64,7 +64,7 @@ module _ (bs held₀ list₀ : List ℕ) (got : Got) (held list : List ℕ) (pre
     pub columns-most : got .shape .k + got .shape .r ≤ 258
     columns-most =
         let a = read-says bs 65536 258 none-refused .shape-allowed in
-        omega (arith, a .data-most, a .parity-most, ap (λ (s : Shape). columns s) shape-is)
+        omega (arith, a .columns-most, ap (λ (s : Shape). columns s) shape-is)
 
     pub stripe-most : (got .shape .k + got .shape .r) * got .shape .l ≤ 65536
     stripe-most = omega (arith, read-says bs 65536 258 none-refused .stripe-short, ap stripeLength shape-is)
@@ -122,7 +122,7 @@ module _ (bs : List ℕ) (a : Answer) (xs es : List ℕ) (w : Worked bs a xs es)
   pub answer-columns : a .shape .k + a .shape .r ≤ 258
   answer-columns =
       let b = read-says bs 65536 258 was-read .shape-allowed in
-      omega (arith, b .data-most, b .parity-most, ap (λ (s : Shape). columns s) answer-shape)
+      omega (arith, b .columns-most, ap (λ (s : Shape). columns s) answer-shape)
 
   pub answer-stripe : (a .shape .k + a .shape .r) * a .shape .l ≤ 65536
   answer-stripe = omega (arith, read-says bs 65536 258 was-read .stripe-short, ap stripeLength answer-shape)

@@ -14,7 +14,7 @@ use lib.ListN.{length, getD, drop}
 use borrow.Author.Tests.{eqb-true, eqb-false, eq-eqb, ne-eqb}
 use Rattle.field.specs.Field.{_⊕_}
 use Rattle.field.proofs.Powers.{sum-zero}
-use Rattle.field.proofs.Cases.{and-left, and-right}
+use Rattle.field.proofs.Cases.{below-or-from, and-left, and-right}
 use Rattle.lanes.proofs.Zero.{or-eqb}
 use Rattle.checking.specs.Compare.{agree, firstDifference}
 
@@ -185,3 +185,34 @@ unfolding firstDifference
 first-before [] ys q l = absurd (not-suc-le-zero l)
 first-before (x ∷ xs) [] q l = absurd (not-suc-le-zero l)
 first-before (x ∷ xs) (y ∷ ys) q l = before-step x y _ xs ys (λ p h. first-before xs ys p h) q l
+
+-- ---- two lists of one length
+
+module _ (xs ys : List ℕ) (long : length xs ≡ length ys) where
+  pub agree-first : agree xs ys ≡ true → firstDifference xs ys ≡ length xs
+  agree-first e = ap (firstDifference xs) (sym (agree-equal xs ys long e)) ∙ first-self xs
+
+  pub first-most : firstDifference xs ys ≤ length xs
+  first-most = go (agree xs ys) refl
+    where
+      go : (b : Bool) → agree xs ys ≡ b → firstDifference xs ys ≤ length xs
+      go true e = omega (arith, agree-first e)
+      go false e = omega (arith, first-within xs ys e)
+
+  pub differs-within : firstDifference xs ys < length xs → getD xs (firstDifference xs ys) 0 ≡ getD ys (firstDifference xs ys) 0 → ⊥
+  differs-within h = go (agree xs ys) refl
+    where
+      go : (b : Bool) → agree xs ys ≡ b → getD xs (firstDifference xs ys) 0 ≡ getD ys (firstDifference xs ys) 0 → ⊥
+      go true e = λ _. omega (arith, agree-first e)
+      go false e = first-differs xs ys e
+
+  -- where the two differ, or end, and before which they agree, is the first difference
+  pub first-unique : (b : ℕ) → b ≤ length xs → (b < length xs → getD xs b 0 ≡ getD ys b 0 → ⊥)
+      → ((x : ℕ) → x < b → getD xs x 0 ≡ getD ys x 0) → b ≡ firstDifference xs ys
+  first-unique b most differs before = go (below-or-from (firstDifference xs ys) b) (below-or-from b (firstDifference xs ys))
+    where
+      go : (firstDifference xs ys < b) ⊎ (b ≤ firstDifference xs ys) → (b < firstDifference xs ys) ⊎ (firstDifference xs ys ≤ b)
+          → b ≡ firstDifference xs ys
+      go (inl h) o = absurd (differs-within (omega arith) (before (firstDifference xs ys) h))
+      go (inr h) (inl g) = absurd (differs (omega (arith, first-most)) (first-before xs ys b g))
+      go (inr h) (inr g) = omega arith

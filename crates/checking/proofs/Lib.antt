@@ -1,4 +1,5 @@
 pub mod Comparing
 pub mod Where
+pub mod Windows
 pub mod Numbers
 pub mod Unique

@@ -1,9 +1,9 @@
 -- Where a stripe is wrong: its parity agrees with that of its data, or first differs within; nowhere is said exactly of a codeword.
-use Prim.Native.Nat.{ℕ, _-_, _/_, _%_, _≤_}
+use Prim.Native.Nat.{ℕ, _-_, _/_, _%_, _<_, _≤_}
 use mathlib.Core.Path.{_≡_, refl, sym, ap, _∙_}
 use mathlib.Core.Bool.{Bool, true, false, cond}
 use mathlib.Core.List.{List, _++_}
-use native.Mathlib.Nat.{suc-ne-zero}
+use native.Mathlib.Nat.{suc-ne-zero, mul-le-mul}
 use native.Mathlib.Omega.{arith}
 use borrow.Author.Tests.{eq-eqb, ne-eqb, eqb-true, eqb-false, lt-ltb, le-ltb}
 use lib.Dec.{eqb}
@@ -11,13 +11,14 @@ use lib.ListN.{length, take, drop, length-take, length-drop}
 use Rattle.field.specs.Bytes.{Bytes}
 use Rattle.stripe.specs.declared.Shape.{Shape}
 use Rattle.checking.specs.declared.Wrong.the-variants.{Nowhere, At, Refused}
-use Rattle.stripe.specs.Shape.{shapeRefusal, dataLength, parityLength, mostParityLength}
+use Rattle.stripe.specs.Shape.{shapeRefusal, dataLength, parityLength, mostRows, mostRowsLength}
 use Rattle.stripe.specs.Stripe.{parity, Codeword}
 use Rattle.stripe.specs.Column.{lentRefusal}
 use Rattle.checking.specs.Compare.{agree, firstDifference}
 use Rattle.checking.specs.Check.{numberOf, whereIs, firstWrong}
 use Rattle.stripe.proofs.Allowed.{allowed}
-use Rattle.stripe.proofs.Places.{parity-length, joined-codeword, codeword-joined}
+use Rattle.stripe.proofs.Places.{parity-length}
+use Rattle.stripe.proofs.Codewords.{joined-codeword, codeword-joined}
 use Rattle.stripe.proofs.Lent.{Lent, lent, lent-both}
 use Rattle.checking.proofs.Comparing.{agree-equal, first-self, first-within}
 
@@ -26,6 +27,15 @@ pub front-length : (xs : List ℕ) (n : ℕ) → n ≤ length xs → length (tak
 front-length xs n h = simp (length-take, length-drop) (omega arith)
 
 -- ---- the answer
+
+module _ (s : Shape) (n : ℕ) where
+  pub where-past : parityLength s ≤ n → whereIs s n ≡ Nowhere
+  unfolding whereIs
+  where-past h = ap (λ (b : Bool). cond b (At (n / s .l) (n % s .l)) Nowhere) (le-ltb n (parityLength s) h)
+
+  pub where-within : n < parityLength s → whereIs s n ≡ At (n / s .l) (n % s .l)
+  unfolding whereIs
+  where-within h = ap (λ (b : Bool). cond b (At (n / s .l) (n % s .l)) Nowhere) (lt-ltb n (parityLength s) h)
 
 module _ (s : Shape) (ds ps : List ℕ) where
   pub wrong-refused : (lentRefusal s (length ds) (length ps) ≡ 0 → ⊥) → firstWrong s ds ps ≡ Refused (lentRefusal s (length ds) (length ps))
@@ -36,15 +46,14 @@ module _ (s : Shape) (ds ps : List ℕ) where
     known : Lent s (length ds) (length ps)
     known = lent s (length ds) (length ps) h
 
-    not-refused : firstWrong s ds ps ≡ whereIs s (firstDifference ps (parity s ds))
+    pub not-refused : firstWrong s ds ps ≡ whereIs s (firstDifference ps (parity s ds))
     unfolding firstWrong
     not-refused = simp (eq-eqb _ _ h)
 
     exact-nowhere : ps ≡ parity s ds → firstWrong s ds ps ≡ Nowhere
-    unfolding whereIs
     exact-nowhere e =
         not-refused ∙ ap (λ (qs : List ℕ). whereIs s (firstDifference ps qs)) (sym e) ∙ ap (whereIs s) (first-self ps)
-        ∙ ap (λ (b : Bool). cond b (At (length ps / s .l) (length ps % s .l)) Nowhere) (le-ltb (length ps) (parityLength s) (omega (arith, known .parity-long)))
+        ∙ where-past s (length ps) (omega (arith, known .parity-long))
 
     exact : agree ps (parity s ds) ≡ true → ps ≡ parity s ds
     exact e = agree-equal ps (parity s ds) (known .parity-long ∙ sym (parity-length s ds)) e
@@ -54,11 +63,7 @@ module _ (s : Shape) (ds ps : List ℕ) where
 
     pub wrong-at : agree ps (parity s ds) ≡ false
         → firstWrong s ds ps ≡ At (firstDifference ps (parity s ds) / s .l) (firstDifference ps (parity s ds) % s .l)
-    unfolding whereIs
-    wrong-at e =
-        not-refused
-        ∙ ap (λ (b : Bool). cond b (At (firstDifference ps (parity s ds) / s .l) (firstDifference ps (parity s ds) % s .l)) Nowhere)
-        (lt-ltb _ (parityLength s) (omega (arith, first-within ps (parity s ds) e, known .parity-long)))
+    wrong-at e = not-refused ∙ where-within s _ (omega (arith, first-within ps (parity s ds) e, known .parity-long))
 
     nowhere-exact : firstWrong s ds ps ≡ Nowhere → ps ≡ parity s ds
     nowhere-exact e = go (agree ps (parity s ds)) refl
@@ -67,9 +72,10 @@ module _ (s : Shape) (ds ps : List ℕ) where
         go true h = exact h
         go false h = absurd (suc-ne-zero 7 (ap numberOf (sym (wrong-at h) ∙ e)))
 
--- the longest parity
-pub parity-most : (s : Shape) (d p : ℕ) → lentRefusal s d p ≡ 0 → p ≤ mostParityLength
-parity-most s d p h = let k = lent s d p h in omega (arith, k .parity-long, allowed s (k .shape) .parity-length)
+-- the longest parity by rows
+pub parity-most : (s : Shape) (d p : ℕ) → lentRefusal s d p ≡ 0 → s .r ≤ mostRows → p ≤ mostRowsLength
+parity-most s d p h few =
+    let k = lent s d p h in omega (arith, k .parity-long, mul-le-mul {n₂ = mostRows} few (allowed s (k .shape) .length-most))
 
 -- ---- nowhere, exactly for a codeword
 

@@ -2,10 +2,11 @@
 // compiler turns into vector code; where they first differ is looked for place by place.
 use lanes::shorter;
 ghost use mathlib.Core.Path.{_≡_};
+ghost use lib.ListN.{length};
 ghost use Rattle.checking.specs.Compare.{agree, firstDifference};
 
 // Whether the two agree at each place.
-pub(crate) fn same(a: &[u8], d: &[u8]) -> bool
+fn same(a: &[u8], d: &[u8]) -> bool
     ensures { λ v. ⌜ v ≡ agree (now (a .entry)) (now (d .entry)) ⌝ }
 {
     let n = shorter(a.len(), d.len());
@@ -19,7 +20,7 @@ pub(crate) fn same(a: &[u8], d: &[u8]) -> bool
 }
 
 // The first place at which the two differ, or the length of the shorter.
-pub(crate) fn first_difference(a: &[u8], d: &[u8]) -> usize
+fn first_difference(a: &[u8], d: &[u8]) -> usize
     ensures { λ v. ⌜ v ≡ firstDifference (now (a .entry)) (now (d .entry)) ⌝ }
 {
     let n = shorter(a.len(), d.len());
@@ -31,4 +32,15 @@ pub(crate) fn first_difference(a: &[u8], d: &[u8]) -> usize
         q += 1;
     }
     q
+}
+
+// The first place at which two slices of one length differ, or their length: looked for only where they do not agree.
+pub(crate) fn difference(a: &[u8], d: &[u8]) -> usize
+    requires { ⌜ length (now a) ≡ length (now d) ⌝ }
+    ensures { λ v. ⌜ v ≡ firstDifference (now (a .entry)) (now (d .entry)) ⌝ }
+{
+    if same(a, d) {
+        return a.len();
+    }
+    first_difference(a, d)
 }

@@ -1,18 +1,18 @@
 -- What encoding fills in is the parity by definition, of a plain stripe and of a prepared one.
 use mathlib.Core.Path.{_≡_, sym, ap, _∙_}
-use mathlib.Core.Bool.{Bool, true, cond}
+use mathlib.Core.Bool.{Bool, true, false, cond}
 use mathlib.Core.List.{List}
 use Prim.Native.Nat.{ℕ, _*_, _<_}
 use lib.ListN.{length}
 use borrow.Author.Tests.{eq-eqb, ne-eqb}
 use Rattle.stripe.specs.declared.Shape.{Shape}
-use Rattle.stripe.specs.Stripe.{rowAt, parity}
+use Rattle.stripe.specs.Stripe.{byPoints, rowAt, parity}
 use Rattle.stripe.specs.Column.{lentRefusal}
 use Rattle.rows.specs.Rows.{rowsFit, filled, RowsBelow}
 use Rattle.coding.specs.Encode.{encoded, IsRow, IsParity}
 use Rattle.rows.proofs.Fits.{Columns, fit-rows}
 use Rattle.rows.proofs.Filled.{filled-places}
-use Rattle.stripe.proofs.Allowed.{allowed}
+use Rattle.stripe.proofs.Allowed.{allowed, rows-most}
 use Rattle.stripe.proofs.Lent.{lent}
 use Rattle.stripe.proofs.Places.{parity-exact, plain-parity}
 
@@ -27,25 +27,25 @@ columns s d n e =
     let a = allowed s (f .shape) in
     record { long = f .data-long; some = a .data-some; most = a .data-most; length-most = a .length-most }
 
-fitting : (s : Shape) (d n : ℕ) → lentRefusal s d n ≡ 0 → rowsFit d (s .k) (s .l) (s .r) n ≡ true
-fitting s d n e =
+fitting : (s : Shape) (d n : ℕ) → byPoints s ≡ false → lentRefusal s d n ≡ 0 → rowsFit d (s .k) (s .l) (s .r) n ≡ true
+fitting s d n rows e =
     let f = lent s d n e in
     let a = allowed s (f .shape) in
-    fit-rows _ _ _ _ _ record { columns = columns s d n e; some = a .parity-some; most = a .parity-most; long = f .parity-long }
+    fit-rows _ _ _ _ _ record { columns = columns s d n e; some = a .parity-some; most = rows-most s a rows; long = f .parity-long }
 
 -- so the rows are filled in
-pub rows-filled : (s : Shape) (ds os ps : List ℕ) → lentRefusal s (length ds) (length os) ≡ 0 → ps ≡ filled ds (s .k) (s .l) (s .r) os
-    → RowsBelow ds (s .k) (s .l) (s .r) (s .l) ps
-rows-filled s ds os ps e is = filled-places ds (s .k) (s .l) (s .r) os (fitting s _ _ e) ps is
+pub rows-filled : (s : Shape) (ds os ps : List ℕ) → byPoints s ≡ false → lentRefusal s (length ds) (length os) ≡ 0
+    → ps ≡ filled ds (s .k) (s .l) (s .r) os → RowsBelow ds (s .k) (s .l) (s .r) (s .l) ps
+rows-filled s ds os ps rows e is = filled-places ds (s .k) (s .l) (s .r) os (fitting s _ _ rows e) ps is
 
 module _ (s : Shape) (ds os ps : List ℕ) (e : lentRefusal s (length ds) (length os) ≡ 0) (same : length ps ≡ length os) where
   long : length ps ≡ s .r * s .l
   long = same ∙ lent s (length ds) (length os) e .parity-long
 
-  pub plain-exact : s .t ≡ 0 → RowsBelow ds (s .k) (s .l) (s .r) (s .l) ps → ps ≡ parity s ds
-  plain-exact z h =
+  pub plain-exact : byPoints s ≡ false → s .t ≡ 0 → RowsBelow ds (s .k) (s .l) (s .r) (s .l) ps → ps ≡ parity s ds
+  plain-exact rows z h =
       let a = allowed s (lent s (length ds) (length os) e .shape) in
-      parity-exact s ds ps long (λ i p hi hp. rows-are s ds ps h i hi p hp ∙ sym (plain-parity s ds i p a z hp))
+      parity-exact s ds ps long (λ i p hi hp. rows-are s ds ps h i hi p hp ∙ sym (plain-parity s ds i p a rows z hp))
 
   pub prepared-exact : ((i : ℕ) → i < s .r → IsParity s ds i ps) → ps ≡ parity s ds
   prepared-exact h = parity-exact s ds ps long (λ i p hi hp. h i hi p hp)

@@ -1,3 +1,4 @@
 pub mod Encoded
 pub mod Piggyback
 pub mod Unique
+pub mod ByPoints

@@ -1,5 +1,6 @@
 -- Piggybacks added to rows: run by run in a parity column, column by column in the parity.
 use mathlib.Core.Path.{_≡_, sym, ap, ap₂, _∙_, subst}
+use mathlib.Core.Bool.{false}
 use mathlib.Core.List.{List}
 use mathlib.Core.Logic.{_⊎_, inl, inr, ⊎-elim}
 use Prim.Native.Nat.{ℕ, _+_, _*_, _-_, _/_, _%_, _<_, _≤_}
@@ -13,14 +14,14 @@ use Rattle.field.specs.Field.{_⊕_}
 use Rattle.field.specs.Row.{row}
 use Rattle.field.proofs.Cases.{below-or-from}
 use Rattle.stripe.specs.declared.Shape.{Shape}
-use Rattle.stripe.specs.Stripe.{across, rowAt, runLength, parityByte, plainRuns}
+use Rattle.stripe.specs.Stripe.{across, rowAt, runLength, byPoints, parityByte, plainRuns}
 use Rattle.stripe.specs.Shape.{mostRows}
 use Rattle.stripe.specs.Column.{lentRefusal}
 use Rattle.rows.specs.Rows.{Added, added}
 use Rattle.rows.proofs.Fits.{Columns, Run, fit-run}
 use Rattle.rows.proofs.Added.{added-places}
 use Rattle.coding.specs.Encode.{IsRow, IsParity, Beside}
-use Rattle.stripe.proofs.Allowed.{Prepared, allowed, prepared-runs}
+use Rattle.stripe.proofs.Allowed.{Prepared, allowed, prepared-runs, prepared-by-rows}
 use Rattle.stripe.proofs.Lent.{lent}
 use Rattle.coding.proofs.Encoded.{columns}
 use Rattle.lanes.proofs.Parts.{part-length, part-at, back-length, back-inside, back-outside}
@@ -56,11 +57,11 @@ pub record Piggybacked (s : Shape) (ds : List ℕ) (i x : ℕ) (ps : List ℕ) :
   pub done : (p : ℕ) → p < x → p < s .l → getD ps (i * s .l + p) 0 ≡ parityByte s ds i p
   pub left : (p : ℕ) → x ≤ p → p < s .l → getD ps (i * s .l + p) 0 ≡ rowAt s ds i p
 
-module _ (s : Shape) (ds : List ℕ) (i m : ℕ) (is : m ≡ runLength s) (some : 0 < m) where
+module _ (s : Shape) (ds : List ℕ) (i m : ℕ) (rows : byPoints s ≡ false) (is : m ≡ runLength s) (some : 0 < m) where
   pub column-start : (ps : List ℕ) → IsRow s ds i ps → Piggybacked s ds i (plainRuns s * m) ps
   column-start ps h =
       record {
-        done = λ p less lp. h p lp ∙ sym (parity-below s ds i p (subst (λ (x : ℕ). p / x < plainRuns s) is (div-lt-iff-lt-mul some .1 less)));
+        done = λ p less lp. h p lp ∙ sym (parity-below s ds i p rows (subst (λ (x : ℕ). p / x < plainRuns s) is (div-lt-iff-lt-mul some .1 less)));
         left = λ p past lp. h p lp;
       }
 
@@ -77,7 +78,7 @@ module _ (s : Shape) (ds : List ℕ) (i m : ℕ) (is : m ≡ runLength s) (some 
         ap (λ (x : ℕ). getD qs x 0) place ∙ g .inside (p - j * m) (omega arith)
         ∙ ap (λ (x : ℕ). x ⊕ row j (across ds (s .l) (i * m + (p - j * m)) 0 (s .k))) (ap (λ (x : ℕ). getD ps x 0) (sym place) ∙ h .left p past (omega arith))
         ∙ ap₂ (λ (x y : ℕ). rowAt s ds i p ⊕ rowAt s ds x y) (sym run) (ap₂ (λ (x y : ℕ). i * x + y) is (sym byte))
-        ∙ sym (parity-from s ds i p (subst (λ (x : ℕ). plainRuns s ≤ x) (sym run) r))
+        ∙ sym (parity-from s ds i p rows (subst (λ (x : ℕ). plainRuns s ≤ x) (sym run) r))
 
     pub column-turn : Piggybacked s ds i (j * m) ps → Piggybacked s ds i ((j + 1) * m) qs
     column-turn h =
@@ -125,6 +126,7 @@ half-turn s ds ps qs i new b h =
 pub record Marked (s : Shape) (d n m : ℕ) : Type 0 where
   pub is : m ≡ runLength s
   pub some : 0 < m
+  pub rows : byPoints s ≡ false
   pub cut : s .t * m ≡ s .l
   pub gains : s .r < s .t
   pub most : s .t ≤ mostRows
@@ -139,6 +141,7 @@ marked s d n m e h is =
     record {
       is = is;
       some = subst (λ (x : ℕ). 0 < x) (sym is) (a .run-some);
+      rows = prepared-by-rows s a h;
       cut = ap₂ _*_ (sym (prepared-runs s h)) is ∙ a .cut;
       gains = p .gains;
       most = p .mark-most;

@@ -1,13 +1,16 @@
-// Encoding: the parity of lent data, filled into a lent buffer. First every parity column is its row; a prepared stripe then has
-// its piggybacks added, run by run.
+// Encoding: the parity of lent data, filled into a lent buffer. With r above 3 that is done in `by_points`. By rows, first every parity
+// column is its row; a prepared stripe then has its piggybacks added, run by run.
+use crate::by_points::fill_by_points;
 use rows::add_row;
 use rows::fill_rows;
+use stripe::MOST_ROWS;
 use stripe::Shape;
 use stripe::column::lent_refusal;
 ghost use mathlib.Core.Path.{_≡_};
+ghost use mathlib.Core.Bool.{false};
 ghost use Prim.Native.Nat.{ℕ, _<_};
 ghost use lib.ListN.{length};
-ghost use Rattle.stripe.specs.Stripe.{parity};
+ghost use Rattle.stripe.specs.Stripe.{byPoints, parity};
 ghost use Rattle.coding.specs.Encode.{encodeRefusal, encoded, IsRow, IsParity, Beside};
 
 // 0, and the parity of the data is filled in; or 1, 2 or 5, and nothing is written.
@@ -26,6 +29,18 @@ pub fn encode(s: Shape, data: &[u8], parity: &mut [u8]) -> u32
 // The parity of the data.
 fn fill_parity(s: Shape, data: &[u8], out: &mut [u8])
     requires { ⌜ encodeRefusal s (length (now «data»)) (length (now out)) ≡ 0 ⌝ }
+    ensures { λ _. ⌜ now (out .exit) ≡ parity s (now («data» .entry)) ⌝ }
+{
+    if MOST_ROWS < s.r {
+        fill_by_points(s, data, out);
+        return;
+    }
+    fill_by_rows(s, data, out);
+}
+
+// The same by rows.
+fn fill_by_rows(s: Shape, data: &[u8], out: &mut [u8])
+    requires { ⌜ (encodeRefusal s (length (now «data»)) (length (now out)) ≡ 0) × (byPoints s ≡ false) ⌝ }
     ensures { λ _. ⌜ now (out .exit) ≡ parity s (now («data» .entry)) ⌝ }
 {
     let k = s.k;

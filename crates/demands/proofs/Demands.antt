@@ -39,10 +39,10 @@ use Rattle.shelf.specs.Shelf.{shapeOf, spansRefusal, spansFilled}
 use Rattle.demands.specs.Calls.{Names, Encodes, Mends, Folds, PlanRefuses, PlanColumns, PlanBytes, PlanSpans, Column, Reads, Writes, MendsRecord, Prints}
 use Rattle.demands.specs.Calls.{encodeTable, mendTable, planTable, foldTable, spansTable, readTable, writeTable, RecordJudged, mendedAnswer}
 use Rattle.demands.specs.Calls.{refusedAnswer, textWith}
-use Rattle.stripe.proofs.Allowed.{allowed}
-use Rattle.stripe.proofs.Places.{parity-at, parity-below, parity-from, plain-parity, codeword-checks, encoded-codeword}
-use Rattle.stripe.proofs.Determined.{determined}
-use Rattle.stripe.proofs.Completed.{completed}
+use Rattle.stripe.proofs.Allowed.{allowed, all-by-rows}
+use Rattle.stripe.proofs.Places.{parity-at, parity-below, parity-from, plain-parity}
+use Rattle.stripe.proofs.Codewords.{codeword-checks, encoded-codeword}
+use Rattle.equations.proofs.Codes.{determined, completed}
 use Rattle.stripe.proofs.Lent.{lent, column-empty, column-refused, column-past}
 use Rattle.mending.proofs.Outcome.{mended-one, counts-for-nothing}
 use Rattle.plan.proofs.Foldable.{IsA, IsB, IsC, foldable}
@@ -254,7 +254,7 @@ demand-2-codeword k r t l ds ps v ps′ b p z =
 pub demand-2-plain : (s : Shape) → shapeRefusal s ≡ 0 → s .t ≡ 0 → (ds : List ℕ) (i p : ℕ) → i < s .r → p < s .l
     → getD (parity s ds) (i * s .l + p) 0 ≡ row i (across ds (s .l) p 0 (s .k))
 unfolding rowAt
-demand-2-plain s h plain ds i p hi hp = parity-at s ds i p hi hp ∙ plain-parity s ds i p (allowed s h) plain hp
+demand-2-plain s h plain ds i p hi hp = parity-at s ds i p hi hp ∙ plain-parity s ds i p (allowed s h) (all-by-rows s h) plain hp
 
 -- In a prepared stripe parity column i, run j, holds row i of run j if j < r; if j >= r, row i of run j plus row j of run i.
 module _ (s : Shape) (h : shapeRefusal s ≡ 0) (prepared : s .t ≡ 0 → ⊥) (ds : List ℕ) (i j e : ℕ) (hi : i < s .r) (hj : j < s .t) (he : e < s .l / s .t) where
@@ -263,7 +263,7 @@ module _ (s : Shape) (h : shapeRefusal s ≡ 0) (prepared : s .t ≡ 0 → ⊥) 
   unfolding rowAt
   demand-2-prepared low =
       let at = in-run s h prepared j e hj he in
-      parity-at s ds i _ hi (at .inside) ∙ parity-below s ds i _ (subst (λ (x : ℕ). x < plainRuns s) (sym (at .run)) low)
+      parity-at s ds i _ hi (at .inside) ∙ parity-below s ds i _ (all-by-rows s h) (subst (λ (x : ℕ). x < plainRuns s) (sym (at .run)) low)
 
   pub demand-2-piggyback : plainRuns s ≤ j
       → getD (parity s ds) (i * s .l + (j * (s .l / s .t) + e)) 0
@@ -271,7 +271,7 @@ module _ (s : Shape) (h : shapeRefusal s ≡ 0) (prepared : s .t ≡ 0 → ⊥) 
   unfolding rowAt
   demand-2-piggyback high =
       let at = in-run s h prepared j e hj he in
-      parity-at s ds i _ hi (at .inside) ∙ parity-from s ds i _ (subst (λ (x : ℕ). plainRuns s ≤ x) (sym (at .run)) high)
+      parity-at s ds i _ hi (at .inside) ∙ parity-from s ds i _ (all-by-rows s h) (subst (λ (x : ℕ). plainRuns s ≤ x) (sym (at .run)) high)
       ∙ ap (λ (x : ℕ). rowAt s ds i (j * (s .l / s .t) + e) ⊕ x) (ap₂ (rowAt s ds) (at .run) (ap₂ (λ (w b : ℕ). i * w + b) (at .width) (at .byte)))
 
 -- Any k columns of a codeword determine it, and any bytes in any k columns belong to one.

@@ -7,3 +7,4 @@ pub mod Runs
 pub mod Demands
 pub mod Stale
 pub mod Worked
+pub mod Points

@@ -11,8 +11,8 @@ use Rattle.field.specs.Bytes.{Bytes, tabulate}
 use Rattle.field.specs.Row.{row, rowFrom}
 use Rattle.stripe.specs.declared.Shape.{Shape}
 use Rattle.stripe.specs.Shape.{shapeRefusal, stripeLength}
-use Rattle.stripe.specs.Stripe.{across, rowAt, runLength, piggyback, parityByte, parity, dataOf, Codeword}
-use Rattle.stripe.proofs.Places.{codeword-checks}
+use Rattle.stripe.specs.Stripe.{byPoints, across, rowAt, runLength, piggyback, parityByte, parity, dataOf, Codeword}
+use Rattle.stripe.proofs.Codewords.{codeword-checks}
 use Rattle.plan.specs.Plan.{foldRefusal, kindOf, plan, wideShape}
 use Rattle.fold.specs.Fold.{parityNamed, cutOut, wideData}
 use Rattle.shelf.specs.Shelf.{shapeOf}
@@ -37,15 +37,15 @@ one-named = refl
 
 -- what the stripes ought to hold
 stripe-0 : parityByte old (dataOf old (getD stale 0 [])) 0 0 ≡ 0x03
-unfolding parityByte piggyback runLength rowAt across tabulate row rowFrom gpow power _⊗_ shifted doubled _⊕_
+unfolding byPoints parityByte piggyback runLength rowAt across tabulate row rowFrom gpow power _⊗_ shifted doubled _⊕_
 stripe-0 = refl
 
 stripe-1 : parityByte old (dataOf old (getD stale 1 [])) 0 0 ≡ 0x07
-unfolding parityByte piggyback runLength rowAt across tabulate row rowFrom gpow power _⊗_ shifted doubled _⊕_
+unfolding byPoints parityByte piggyback runLength rowAt across tabulate row rowFrom gpow power _⊗_ shifted doubled _⊕_
 stripe-1 = refl
 
 stripe-1-unnamed : parityByte old (dataOf old (getD stale 1 [])) 2 0 ≡ 0x13
-unfolding parityByte piggyback runLength rowAt across tabulate row rowFrom gpow power _⊗_ shifted doubled _⊕_
+unfolding byPoints parityByte piggyback runLength rowAt across tabulate row rowFrom gpow power _⊗_ shifted doubled _⊕_
 stripe-1-unnamed = refl
 
 pub both-stale : (x : ℕ) → x < 2 → Codeword old (getD stale x []) → ⊥

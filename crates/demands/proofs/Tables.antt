@@ -107,8 +107,8 @@ module _ (s : Shape) where
     pub plan-table : foldRefusal s n f ≡ firstOf (planTable s n f [])
     unfolding foldRefusal
     plan-table =
-        let stripes = stripesAllowed (s .k) n in
-        let new = newAllowed (s .t) f in
+        let stripes = stripesAllowed (s .k) (s .r) n in
+        let new = newAllowed (s .r) (s .t) f in
         after (shapeTable s) (unless stripes 3 ∷ unless new 4 ∷ []) (shapeRefusal s) (cond stripes (cond new 0 4) 3) (shape-table s) (two stripes new 2 4)
 
     pub fold-table : (a b : ℕ) → foldVerdict s n f a b ≡ firstOf (foldTable s n f a b)

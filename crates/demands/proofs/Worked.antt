@@ -13,17 +13,18 @@ use Rattle.field.specs.Bytes.{Bytes, tabulate}
 use Rattle.field.specs.Row.{row, rowFrom}
 use Rattle.field.specs.Solve.{moment, apart, cleared, solve}
 use Rattle.stripe.specs.Shape.{shapeRefusal}
-use Rattle.stripe.specs.Stripe.{across, rowAt, runLength, piggyback, parityByte, parity, among, Ascending, ascending, Codeword, Agree}
+use Rattle.stripe.specs.Stripe.{byPoints, across, rowAt, runLength, piggyback, parityByte, parity, among, Ascending, ascending, Codeword, Agree}
 use Rattle.stripe.proofs.Survivors.{countTrue, firstRow, rowStep}
 use Rattle.stripe.proofs.Lost.{lostData}
 use Rattle.stripe.proofs.Errors.{points, errors, mended, patched}
 use Rattle.stripe.proofs.Word.{wordErrors, wordMended}
 use Rattle.stripe.proofs.Mended.{wordBelow, wanted, wordAt, dataMended, stripeMended}
 use Rattle.stripe.proofs.Determined.{mendable}
+use Rattle.stripe.proofs.Codewords.{codeword-of}
 use Rattle.lost.specs.Positions.{positions, listRefusal}
 use Rattle.mending.specs.Mend.{mendRefusal, Restored, Mended}
 use Rattle.plan.specs.Plan.{foldRefusal, kindOf, columnSpans, kindSpans, spansFrom, plan, columnsEach, bytesEach, columnsRead, bytesRead}
-use Rattle.fold.specs.Fold.{readParity, readRow, runShare, share, foldByte, foldStripes, parts, foldOf, named, cutOut}
+use Rattle.fold.specs.Fold.{foldByRows, readParity, readRow, runShare, share, foldByte, foldStripes, parts, foldOf, named, cutOut}
 use Rattle.number.specs.Number.{groups, groupsAt}
 use Rattle.record.specs.Reading.{firstOf, headRefusal, contentRefusal, positionsRefusal, afterPositions, stripeRefusal, readRefusal}
 use Rattle.demands.specs.Worked.{shape, stale, accepted, Holds, AllHold, worked}
@@ -54,16 +55,21 @@ shape-allowed : shapeRefusal (shape 4 2 0 1) ≡ 0
 unfolding shapeRefusal
 shape-allowed = refl
 
+by-rows : byPoints (shape 4 2 0 1) ≡ false
+unfolding byPoints
+by-rows = refl
+
 -- what the stale stripe would be mended to, its first column lost
 stale-mended : getD (stripeMended (shape 4 2 0 1) (0 ∷ []) stale) 5 0 ≡ 0x25
 unfolding stripeMended dataMended wordAt wanted wordBelow wordMended wordErrors errors mended patched points lostData countTrue firstRow rowStep
-    solve moment apart cleared inverseOf across rowAt runLength piggyback parityByte parity among tabulate row rowFrom gpow power _⊗_ shifted doubled _⊕_
+    solve moment apart cleared inverseOf across rowAt runLength piggyback byPoints parityByte parity among tabulate row rowFrom gpow power _⊗_ shifted
+    doubled _⊕_
 stale-mended = refl
 
 stale-disagrees : (ys : List ℕ) → Codeword (shape 4 2 0 1) ys → Agree (shape 4 2 0 1) (0 ∷ []) stale ys → ⊥
 unfolding among
 stale-disagrees ys u v =
-    let agree = mendable (shape 4 2 0 1) shape-allowed (0 ∷ []) lost-one (lit≤ tt) stale stale-bytes .0 (ys, (u, v)) in
+    let agree = mendable (shape 4 2 0 1) by-rows shape-allowed (0 ∷ []) lost-one (lit≤ tt) stale stale-bytes .0 (ys, (u, v)) in
     let e : 0x29 ≡ getD (stripeMended (shape 4 2 0 1) (0 ∷ []) stale) 5 0 = agree 5 0 (lit< tt) (lit< tt) refl in
     omega (arith, e, stale-mended)
 
@@ -77,8 +83,8 @@ stale-refused =
     }
 
 accepted-codeword : Codeword (shape 4 2 0 1) accepted
-unfolding small parity parityByte piggyback runLength rowAt across tabulate row rowFrom gpow power _⊗_ shifted doubled _⊕_
-accepted-codeword = record { bytes = bytes accepted tt; long = refl; exact = refl }
+unfolding small byPoints parity parityByte piggyback runLength rowAt across tabulate row rowFrom gpow power _⊗_ shifted doubled _⊕_
+accepted-codeword = codeword-of (shape 4 2 0 1) accepted (bytes accepted tt) refl refl
 
 accepted-agrees : Agree (shape 4 2 0 1) (0 ∷ 3 ∷ []) stale accepted
 unfolding among
@@ -104,9 +110,10 @@ stale-accepted =
     }
 
 pub worked-hold : AllHold worked
-unfolding worked AllHold Holds _⊗_ shifted doubled _⊕_ gpow power parity parityByte piggyback runLength rowAt across tabulate row rowFrom groups
+unfolding worked AllHold Holds _⊗_ shifted doubled _⊕_ gpow power byPoints parity parityByte piggyback runLength rowAt across tabulate row rowFrom groups
     groupsAt firstOf headRefusal contentRefusal positionsRefusal afterPositions stripeRefusal readRefusal shapeRefusal foldRefusal kindOf columnSpans
-    kindSpans spansFrom plan columnsEach bytesEach columnsRead bytesRead readParity readRow runShare share foldByte foldStripes parts foldOf named cutOut
+    kindSpans spansFrom plan columnsEach bytesEach columnsRead bytesRead readParity readRow runShare share foldByte foldByRows foldStripes parts foldOf
+    named cutOut
 worked-hold = (
   refl,
   (

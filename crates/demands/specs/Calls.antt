@@ -8,7 +8,7 @@ use mathlib.Core.List.{List, [], _∷_}
 use lib.Dec.{leb, eqb}
 use lib.ListN.{length}
 use Rattle.stripe.specs.declared.Shape.{Shape}
-use Rattle.stripe.specs.Shape.{dataAllowed, parityAllowed, markAllowed, lengthAllowed, noShape}
+use Rattle.stripe.specs.Shape.{dataAllowed, parityAllowed, pointsAllowed, markAllowed, lengthAllowed, noShape}
 use Rattle.stripe.specs.Shape.{columns, dataLength, parityLength, stripeLength}
 use Rattle.stripe.specs.Stripe.{ascending}
 use Rattle.stripe.specs.Column.{columnOf}
@@ -84,7 +84,7 @@ Prints bs out v out′ = Printed bs out v out′
 
 -- k, r and t are allowed
 abbrev pub numbersAllowed : Shape → Bool
-numbersAllowed s = dataAllowed (s .k) && parityAllowed (s .r) && markAllowed (s .k) (s .r) (s .t)
+numbersAllowed s = dataAllowed (s .k) && parityAllowed (s .r) && pointsAllowed (s .k) (s .r) && markAllowed (s .k) (s .r) (s .t)
 
 -- encoding and the column question, lent d data bytes and p parity bytes
 abbrev pub encodeTable : Shape → ℕ → ℕ → List ℕ
@@ -109,8 +109,8 @@ abbrev pub planTable : Shape → ℕ → ℕ → List ℕ → List ℕ
 planTable s n f after =
     unless (numbersAllowed s) 1
     ∷ unless (lengthAllowed (s .t) (s .l)) 2
-    ∷ unless (stripesAllowed (s .k) n) 3
-    ∷ unless (newAllowed (s .t) f) 4
+    ∷ unless (stripesAllowed (s .k) (s .r) n) 3
+    ∷ unless (newAllowed (s .r) (s .t) f) 4
     ∷ after
 
 -- a fold, lent a bytes to read and b to fill

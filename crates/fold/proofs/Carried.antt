@@ -1,5 +1,6 @@
--- What a stripe adds to the wide stripe is the row of its own data plus the disagreement that the fold carries on, for all bytes.
+-- By rows, what a stripe adds to the wide stripe is the row of its own data plus the disagreement that the fold carries on, for all bytes.
 use mathlib.Core.Path.{_≡_, sym, ap, ap₂, _∙_, subst}
+use mathlib.Core.Bool.{false}
 use mathlib.Core.List.{List}
 use mathlib.Core.Logic.{_⊎_, inl, inr}
 use Prim.Native.Nat.{ℕ, _+_, _-_, _*_, _/_, _%_, _<_, _≤_}
@@ -14,7 +15,7 @@ use Rattle.field.proofs.Xor.{add-zero, sums}
 use Rattle.field.proofs.Cases.{below-or-from}
 use Rattle.stripe.specs.declared.Shape.{Shape}
 use Rattle.stripe.specs.Shape.{stripeLength}
-use Rattle.stripe.specs.Stripe.{across, rowAt, runLength, dataOf, plainRuns}
+use Rattle.stripe.specs.Stripe.{across, rowAt, runLength, byPoints, dataOf, plainRuns}
 use Rattle.stripe.proofs.Allowed.{Allowed, Prepared}
 use Rattle.stripe.proofs.Places.{place-lt, place-column, place-byte, place-split, place-column-lt, across-length, across-first, row-at-stripe, parity-below}
 use Rattle.stripe.proofs.Places.{parity-from, plain-parity}
@@ -44,7 +45,7 @@ apart x y = simp sums
 apart-two : (x a b : ℕ) → x ⊕ a ≡ b ⊕ (x ⊕ (a ⊕ b))
 apart-two x a b = simp sums
 
-module _ (s : Shape) (zs : List ℕ) (a : Allowed s) (long : length zs ≡ stripeLength s) where
+module _ (s : Shape) (zs : List ℕ) (a : Allowed s) (rows : byPoints s ≡ false) (long : length zs ≡ stripeLength s) where
   abbrev ds : List ℕ
   ds = dataOf s zs
 
@@ -54,7 +55,7 @@ module _ (s : Shape) (zs : List ℕ) (a : Allowed s) (long : length zs ≡ strip
   a-share f j p h hj hp =
       share-a s (readOf A s f zs) j p ∙ a-at s zs long f (h .enough) j p hj hp
       ∙ apart (getD zs ((s .k + j) * s .l + p) 0) (rowAt s ds j p)
-      ∙ ap (λ (x : ℕ). rowAt s ds j p ⊕ (getD zs ((s .k + j) * s .l + p) 0 ⊕ x)) (sym (plain-parity s ds j p a (h .plain) hp))
+      ∙ ap (λ (x : ℕ). rowAt s ds j p ⊕ (getD zs ((s .k + j) * s .l + p) 0 ⊕ x)) (sym (plain-parity s ds j p a rows (h .plain) hp))
 
   -- kind C
   c-share : (f j p : ℕ) → p < s .l → share C s (readOf C s f zs) j p ≡ rowAt s ds j p ⊕ carried C s zs j p
@@ -113,13 +114,13 @@ module _ (s : Shape) (zs : List ℕ) (a : Allowed s) (long : length zs ≡ strip
             (parity-read j (b * q + e) lj (place-in b e hb he)
             ∙ apart (getD zs ((s .k + j) * s .l + (b * q + e)) 0) (rowAt s ds j (b * q + e))
             ∙ ap (λ (x : ℕ). rowAt s ds j (b * q + e) ⊕ (getD zs ((s .k + j) * s .l + (b * q + e)) 0 ⊕ x))
-            (sym (parity-below s ds j (b * q + e) (subst (λ (x : ℕ). x < s .r) (sym (run-of b e he)) lb))))
+            (sym (parity-below s ds j (b * q + e) rows (subst (λ (x : ℕ). x < s .r) (sym (run-of b e he)) lb))))
         go (inl lb) (inr gj) =
             simp (lt-ltb b (plainRuns s) lb, le-ltb j (s .r) gj)
             (ap₂ _⊕_ (parity-read b (j * q + e) lb (place-in j e hj he)) (row-read b j e gj hj he)
             ∙ apart-two (getD zs ((s .k + b) * s .l + (j * q + e)) 0) (rowAt s ds b (j * q + e)) (rowAt s ds j (b * q + e))
             ∙ ap (λ (x : ℕ). rowAt s ds j (b * q + e) ⊕ (getD zs ((s .k + b) * s .l + (j * q + e)) 0 ⊕ x))
-            (sym (parity-from s ds b (j * q + e) (subst (λ (x : ℕ). s .r ≤ x) (sym (run-of j e he)) gj)
+            (sym (parity-from s ds b (j * q + e) rows (subst (λ (x : ℕ). s .r ≤ x) (sym (run-of j e he)) gj)
             ∙ ap₂ (λ (x y : ℕ). rowAt s ds b (j * q + e) ⊕ rowAt s ds x y) (run-of j e he)
             (ap (λ (y : ℕ). b * q + y) (in-run j e he)))))
         go (inr gb) w = simp (le-ltb b (plainRuns s) gb) (row-read j b e gb hb he ∙ sym (add-zero (rowAt s ds j (b * q + e))))

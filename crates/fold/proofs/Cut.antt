@@ -12,10 +12,10 @@ use lib.ListN.{length, getD, take, drop, length-append, length-take, length-drop
 use lib.Seq.{getD-take, getD-drop, getD-append-add, getD-at, take-at, drop-at}
 use borrow.Author.Tests.{eq-eqb}
 use Rattle.stripe.specs.declared.Shape.{Shape}
-use Rattle.stripe.specs.Shape.{stripeLength}
-use Rattle.stripe.specs.Stripe.{runLength}
+use Rattle.stripe.specs.Shape.{dataLength, stripeLength}
+use Rattle.stripe.specs.Stripe.{runLength, dataOf, parityOf}
 use Rattle.stripe.proofs.Allowed.{Allowed, Prepared}
-use Rattle.stripe.proofs.Places.{place-lt}
+use Rattle.stripe.proofs.Places.{place-lt, by-places, parity-of-at, parity-of-length, data-of-length}
 use Rattle.plan.specs.declared.Span.{Span}
 use Rattle.plan.specs.declared.Kind.{Kind}
 use Rattle.plan.specs.declared.Kind.the-variants.{A, B, C}
@@ -111,6 +111,12 @@ module _ (s : Shape) (zs : List ℕ) (long : length zs ≡ stripeLength s) where
         columns-at s zs 0 (s .l) (omega arith) (s .k) f j p (fits (s .k + f) (omega arith)) hj hp
         ∙ ap (λ (x : ℕ). getD zs x 0) (omega arith)
 
+  -- with f = r they are all of them
+  pub a-whole : readOf A s (s .r) zs ≡ parityOf s zs
+  a-whole =
+      by-places (s .r) (s .l) (readOf A s (s .r) zs) (parityOf s zs) (a-length (s .r) (omega arith)) (parity-of-length s zs long)
+      (λ j p hj hp. a-at (s .r) (omega arith) j p hj hp ∙ sym (parity-of-at s zs j p))
+
   -- kind C: data columns, whole
   module _ (f : ℕ) where
     c-length : length (readOf C s f zs) ≡ s .k * s .l
@@ -122,6 +128,11 @@ module _ (s : Shape) (zs : List ℕ) (long : length zs ≡ stripeLength s) where
     c-at i p hi hp =
         columns-at s zs 0 (s .l) (omega arith) 0 (s .k) i p (fits (0 + s .k) (omega arith)) hi hp
         ∙ ap (λ (x : ℕ). getD zs x 0) (omega arith)
+
+    pub c-whole : readOf C s f zs ≡ dataOf s zs
+    c-whole =
+        by-places (s .k) (s .l) (readOf C s f zs) (dataOf s zs) c-length (data-of-length s zs long)
+        (λ i p hi hp. c-at i p hi hp ∙ sym (getD-take (dataLength s) zs (i * s .l + p) 0 (place-lt hi hp)))
 
   -- kind B: a part of each data column, then the parity columns
   module _ (f : ℕ) (h : Prepared s) (whole : s .t * runLength s ≡ s .l) where

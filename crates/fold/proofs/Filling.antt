@@ -1,6 +1,6 @@
 -- The wide parity takes in a stripe run by run: each share lies within what is stored, and is what the fold's definition says.
 use mathlib.Core.Path.{_≡_, refl, sym, ap, ap₂, _∙_, subst}
-use mathlib.Core.Bool.{Bool}
+use mathlib.Core.Bool.{Bool, false}
 use mathlib.Core.List.{List}
 use mathlib.Core.Logic.{_⊎_, inl, inr}
 use Prim.Native.Nat.{ℕ, _+_, _-_, _*_, _/_, _%_, _<_, _≤_}
@@ -14,7 +14,7 @@ use Rattle.field.specs.Field.{_⊕_}
 use Rattle.field.proofs.Bytes.{tabulate-length, tabulate-at}
 use Rattle.field.proofs.Cases.{below-or-from}
 use Rattle.stripe.specs.declared.Shape.{Shape}
-use Rattle.stripe.specs.Stripe.{runs, runLength, plainRuns}
+use Rattle.stripe.specs.Stripe.{runs, runLength, byPoints, plainRuns}
 use Rattle.stripe.specs.Shape.{mostRows}
 use Rattle.stripe.proofs.Allowed.{Allowed, Prepared, allowed, plain-runs, prepared-runs, plain-run-length, prepared-run-length}
 use Rattle.stripe.proofs.Places.{place-lt, place-column, place-byte, place-split, place-column-lt, place-byte-lt, column-inside}
@@ -40,9 +40,9 @@ reads-kinds s f h = go (new-kinds s f (h .shape) (h .new))
     go (inr (inl x)) = inr x
     go (inr (inr x)) = absurd (h .kind (x .kind))
 
-pub reads-parity : (s : Shape) (n f : ℕ) → foldRefusal s n f ≡ 0 → (kindOf s f ≡ C → ⊥) → ReadsParity s f
-reads-parity s n f passed h =
-    let p = tests-passed s n f passed in record { shape = p .0; new = p .1 .1; kind = h }
+pub reads-parity : (s : Shape) (n f : ℕ) → foldRefusal s n f ≡ 0 → byPoints s ≡ false → (kindOf s f ≡ C → ⊥) → ReadsParity s f
+reads-parity s n f passed rows h =
+    let p = tests-passed s n f passed in record { shape = p .0; new = p .1 .1; rows = rows; kind = h }
 
 next-run : (b t q l : ℕ) → b < t → t * q ≡ l → b * q + q ≤ l
 next-run b t q l h e = omega (arith, mul-le-mul-right q h)

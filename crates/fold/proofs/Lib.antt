@@ -4,6 +4,7 @@ pub mod Cut
 pub mod Carried
 pub mod Sums
 pub mod Wide
+pub mod Pointed
 pub mod Shows
 pub mod Stepped
 pub mod Filling
@@ -12,4 +13,5 @@ pub mod Summing
 pub mod Offsets
 pub mod Verdict
 pub mod Encoded
+pub mod ByPoints
 pub mod Unique

@@ -1,5 +1,6 @@
 -- The rows of the data read of a prepared stripe are the parity of a plain stripe with those data and f parity columns.
 use mathlib.Core.Path.{_≡_, refl, sym, ap, ap₂, _∙_, subst}
+use mathlib.Core.Bool.{false}
 use mathlib.Core.List.{List}
 use mathlib.Core.Logic.{_⊎_, inl, inr}
 use Prim.Native.Nat.{ℕ, _+_, _-_, _*_, _<_, _≤_}
@@ -10,15 +11,15 @@ use lib.Seq.{length-take-le}
 use borrow.Author.Tests.{le-leb, eq-eqb}
 use Rattle.field.specs.Row.{row}
 use Rattle.stripe.specs.declared.Shape.{Shape}
-use Rattle.stripe.specs.Shape.{shapeRefusal, mostData, mostParity, mostLength}
-use Rattle.stripe.specs.Stripe.{across, rowAt, parity, runLength}
+use Rattle.stripe.specs.Shape.{shapeRefusal, mostData, mostRows, mostParity, mostLength}
+use Rattle.stripe.specs.Stripe.{across, rowAt, parity, runLength, byPoints}
 use Rattle.stripe.specs.Column.{lentRefusal}
-use Rattle.stripe.proofs.Allowed.{Allowed, Prepared, allowed}
+use Rattle.stripe.proofs.Allowed.{Allowed, Prepared, allowed, few-by-rows}
 use Rattle.stripe.proofs.Places.{parity-length, parity-at, plain-parity, across-take}
 use Rattle.coding.specs.Encode.{encoded}
 use Rattle.plan.specs.declared.Kind.{Kind}
 use Rattle.plan.specs.Plan.{kindOf, bytesEach}
-use Rattle.plan.proofs.Foldable.{IsA, IsB, new-least, new-limit}
+use Rattle.plan.proofs.Foldable.{IsA, IsB, new-least, new-limit, new-few}
 use Rattle.plan.proofs.Counted.{runs-sum}
 use Rattle.fold.specs.Fold.{partBytes}
 use Rattle.fold.specs.Shares.{ReadsParity, IsRows}
@@ -61,6 +62,12 @@ module _ (s : Shape) (f : ℕ) (reads : ReadsParity s f) (some : partBytes s ≡
   abbrev plain : Shape
   plain = record { k = s .k; r = f; t = 0; l = partBytes s }
 
+  few : f ≤ mostRows
+  few = new-few s f (reads .shape) (reads .new) (reads .rows)
+
+  plain-by-rows : byPoints plain ≡ false
+  plain-by-rows = few-by-rows plain few
+
   plain-allowed : shapeRefusal plain ≡ 0
   unfolding shapeRefusal
   plain-allowed =
@@ -70,6 +77,7 @@ module _ (s : Shape) (f : ℕ) (reads : ReadsParity s f) (some : partBytes s ≡
         le-leb 1 (s .k) (good .data-some),
         le-leb (s .k) mostData (good .data-most),
         le-leb 1 f (new-least s f (reads .shape) (reads .new)),
+        le-leb f mostRows few,
         le-leb f mostParity (new-limit s f (reads .shape) (reads .new)),
         le-leb 1 (partBytes s) least,
         le-leb (partBytes s) mostLength most,
@@ -82,7 +90,7 @@ module _ (s : Shape) (f : ℕ) (reads : ReadsParity s f) (some : partBytes s ≡
       record {
         long = ap length zs-is ∙ parity-length plain _;
         at = λ j p hj hp. ap (λ (l : List ℕ). getD l (j * partBytes s + p) 0) zs-is ∙ parity-at plain _ j p hj hp
-            ∙ plain-parity plain _ j p (allowed plain plain-allowed) refl hp ∙ row-is j p hp;
+            ∙ plain-parity plain _ j p (allowed plain plain-allowed) plain-by-rows refl hp ∙ row-is j p hp;
       }
     where
       front : length (take (s .k * partBytes s) xs) ≡ s .k * partBytes s

@@ -1,25 +1,31 @@
--- What follows from the disagreement identity: codewords carry nothing on, so their fold is the parity of all their data; and what a
--- stripe holds wrong in a byte that the plan names, it carries on to one place of the wide stripe.
+-- What the fold of codewords is: the parity of all their data; and a stripe that is wrong in a byte which the plan names shows in the wide stripe.
+-- By rows this follows from the disagreement identity: codewords carry nothing on, and what a stripe holds wrong in a byte that the plan names, it
+-- carries on to one place of the wide stripe. By points it follows from the sums of the wide stripe.
 use mathlib.Core.Path.{_≡_, refl, sym, ap, ap₂, _∙_, subst}
+use mathlib.Core.Bool.{Bool, true, false}
 use mathlib.Core.List.{List, [], _∷_}
 use mathlib.Core.Logic.{_⊎_, inl, inr}
 use Prim.Native.Nat.{ℕ, zero, suc, _+_, _*_, _/_, _%_, _<_, _≤_}
 use native.Mathlib.Nat.{add-mul, mod-lt, not-suc-le-zero}
 use native.Mathlib.Omega.{arith}
 use lib.Dec.{lit<}
-use lib.ListN.{length, getD, length-append}
+use lib.ListN.{length, getD, length-append, take-append-drop}
+use lib.Seq.{take-at, drop-at}
 use borrow.Author.Tests.{lt-ltb, le-ltb}
 use Rattle.field.specs.Field.{_⊕_, _⊗_, gpow}
 use Rattle.field.specs.Bytes.{Bytes}
 use Rattle.field.proofs.Xor.{add-lt, add-self, add-zero}
 use Rattle.field.proofs.Mul.{mul-pos, gpow-lt, gpow-pos}
-use Rattle.field.proofs.Cases.{below-or-from}
-use Rattle.field.proofs.Bytes.{append-bytes, take-bytes}
+use Rattle.field.proofs.Powers.{sum-zero}
+use Rattle.field.proofs.Cases.{below-or-from, zero-or-not}
+use Rattle.field.proofs.Bytes.{append-bytes, take-bytes, drop-bytes}
 use Rattle.stripe.specs.declared.Shape.{Shape}
 use Rattle.stripe.specs.Shape.{dataLength, stripeLength}
-use Rattle.stripe.specs.Stripe.{runLength, parityByte, parity, dataOf, Codeword, plainRuns}
-use Rattle.stripe.proofs.Allowed.{Allowed, Prepared}
-use Rattle.stripe.proofs.Places.{place-lt, place-column, place-byte, place-split, place-column-lt, parity-exact, parity-byte-lt, codeword-of, codeword-checks}
+use Rattle.stripe.specs.Stripe.{runLength, byPoints, parityByte, parity, dataOf, parityOf, Codeword, plainRuns}
+use Rattle.stripe.proofs.Allowed.{Allowed, Prepared, prepared-by-rows}
+use Rattle.stripe.proofs.Places.{place-lt, place-column, place-byte, place-split, place-column-lt, parity-exact, parity-byte-lt, parity-bytes}
+use Rattle.stripe.proofs.Places.{parity-of-at, parity-of-length, data-of-length}
+use Rattle.stripe.proofs.Codewords.{codeword-of, codeword-checks}
 use Rattle.plan.specs.declared.Kind.{Kind}
 use Rattle.plan.specs.Plan.{kindOf, foldRefusal, plan, wideShape}
 use Rattle.fold.specs.Fold.{foldOf, joined, wideData, cutOut, wideStripe, disagreement, parityNamed, runCarried, carried}
@@ -27,6 +33,7 @@ use Rattle.plan.proofs.Foldable.{IsA, IsB, IsC, Foldable, foldable}
 use Rattle.fold.proofs.Prepared.{run-whole}
 use Rattle.fold.proofs.Laws.{fold-length, fold-bytes}
 use Rattle.fold.proofs.Wide.{answer-is, wide-data, wide-answer, wide-data-length, disagreement-sum}
+use Rattle.fold.proofs.Pointed.{data-parity, columns-parity, stale-shows}
 use Rattle.fold.proofs.Sums.{map-none, map-one}
 
 pub codeword-agrees : (s : Shape) (zs : List ℕ) (i p : ℕ) → Codeword s zs → i < s .r → p < s .l → disagreement s zs i p ≡ 0
@@ -37,6 +44,22 @@ codeword-agrees s zs i p w hi hp =
 disagreement-lt : (s : Shape) (zs : List ℕ) (i p : ℕ) → Bytes zs → disagreement s zs i p < 256
 unfolding disagreement
 disagreement-lt s zs i p b = add-lt 8 _ _ (b ((s .k + i) * s .l + p)) (parity-byte-lt s (dataOf s zs) i p)
+
+-- a stripe of bytes in its data that disagrees nowhere is a codeword
+agrees-codeword : (s : Shape) (zs : List ℕ) → Bytes (dataOf s zs) → length zs ≡ stripeLength s
+    → ((i p : ℕ) → i < s .r → p < s .l → disagreement s zs i p ≡ 0) → Codeword s zs
+unfolding disagreement
+agrees-codeword s zs b long agrees = codeword-of s zs bytes long exact
+  where
+    exact : parityOf s zs ≡ parity s (dataOf s zs)
+    exact =
+        parity-exact s (dataOf s zs) (parityOf s zs) (parity-of-length s zs long)
+        (λ i p hi hp. parity-of-at s zs i p ∙ sum-zero _ _ (agrees i p hi hp))
+
+    bytes : Bytes zs
+    bytes =
+        subst Bytes (take-append-drop (dataLength s) zs)
+        (append-bytes (dataOf s zs) (parityOf s zs) b (subst Bytes (sym exact) (parity-bytes s (dataOf s zs))))
 
 -- ---- where a disagreement is carried to, run by run
 
@@ -144,6 +167,17 @@ bytes-wide s [] h = λ i. lit< tt
 bytes-wide s (zs ∷ zss) h =
     append-bytes (dataOf s zs) _ (take-bytes (dataLength s) zs (h 0 (omega arith))) (bytes-wide s zss (λ l k. h (suc l) (omega arith)))
 
+-- and the other way: the data of each stripe are a part of those of the wide stripe
+bytes-part : (s : Shape) (zss : List (List ℕ)) → ((l : ℕ) → l < length zss → length (getD zss l []) ≡ stripeLength s) → Bytes (wideData s zss)
+    → (l : ℕ) → l < length zss → Bytes (dataOf s (getD zss l []))
+unfolding wideData joined
+bytes-part s [] long b l h = absurd (not-suc-le-zero h)
+bytes-part s (zs ∷ zss) long b zero h =
+    subst Bytes (take-at (dataOf s zs) _ (dataLength s) (data-of-length s zs (long 0 h))) (take-bytes (dataLength s) _ b)
+bytes-part s (zs ∷ zss) long b (suc l) h =
+    bytes-part s zss (λ i m. long (suc i) (omega arith))
+    (subst Bytes (drop-at (dataOf s zs) _ (dataLength s) (data-of-length s zs (long 0 (omega arith)))) (drop-bytes (dataLength s) _ b)) l (omega arith)
+
 wide-all : (s : Shape) (f : ℕ) (zss : List (List ℕ)) → ((l : ℕ) → l < length zss → Bytes (getD zss l [])) → Bytes (wideStripe s (length zss) f zss)
 unfolding wideStripe
 wide-all s f zss h = append-bytes (wideData s zss) _ (bytes-wide s zss h) (fold-bytes s (length zss) f _)
@@ -153,7 +187,7 @@ wide-length : (s : Shape) (f : ℕ) (zss : List (List ℕ)) → foldRefusal s (l
     → length (wideStripe s (length zss) f zss) ≡ stripeLength (wideShape s (length zss) f)
 unfolding wideStripe
 wide-length s f zss passed long =
-    length-append (wideData s zss) _ ∙ ap₂ _+_ (wide-data-length s f zss passed long) (fold-length s (length zss) f _)
+    length-append (wideData s zss) _ ∙ ap₂ _+_ (wide-data-length s f zss passed long) (fold-length s (length zss) f _ passed)
     ∙ sym (add-mul (length zss * s .k) f (s .l))
 
 -- ---- the theorems
@@ -176,14 +210,26 @@ module _ (s : Shape) (f : ℕ) (zss : List (List ℕ)) (passed : foldRefusal s (
       carried-from s f (getD zss l []) (λ (x : ℕ). x ≡ 0) (able .shape) (able .kinds) refl
       (λ i x hi hx. codeword-agrees s (getD zss l []) i x (codewords l h) hi hx) j p hj hp
 
-  pub folded-parity : foldOf s (length zss) f (cutOut s zss (plan s (length zss) f)) ≡ parity (wideShape s (length zss) f) (wideData s zss)
-  folded-parity =
-      parity-exact (wideShape s (length zss) f) (wideData s zss) _ (fold-length s (length zss) f _)
+  abbrev Exact : Type 0
+  Exact = foldOf s (length zss) f (cutOut s zss (plan s (length zss) f)) ≡ parity (wideShape s (length zss) f) (wideData s zss)
+
+  rows-parity : byPoints s ≡ false → Exact
+  rows-parity rows =
+      parity-exact (wideShape s (length zss) f) (wideData s zss) _ (fold-length s (length zss) f _ passed)
       (λ j p hj hp.
-      answer-is s f zss passed long j p hj hp
+      answer-is s f zss passed long rows j p hj hp
       ∙ ap (λ (x : ℕ). parityByte (wideShape s (length zss) f) (wideData s zss) j p ⊕ x)
       (map-none (j * s .k) (λ zs. carried (kindOf s f) s zs j p) zss (nothing j p hj hp))
       ∙ add-zero _)
+
+  pub folded-parity : foldOf s (length zss) f (cutOut s zss (plan s (length zss) f)) ≡ parity (wideShape s (length zss) f) (wideData s zss)
+  folded-parity = go (byPoints s) refl (able .kinds)
+    where
+      go : (b : Bool) → byPoints s ≡ b → IsA s f ⊎ (IsB s f ⊎ IsC s f) → Exact
+      go false e k = rows-parity e
+      go true e (inl h) = columns-parity s f zss passed long e (h .kind) codewords
+      go true e (inr (inl h)) = rows-parity (prepared-by-rows s (able .shape) (let g = h .prepared .gains in omega arith))
+      go true e (inr (inr h)) = data-parity s f zss passed long e (h .kind)
 
   -- the wide stripe is then a codeword
   pub folded-codeword : Codeword (wideShape s (length zss) f) (wideStripe s (length zss) f zss)
@@ -215,20 +261,58 @@ module _ (s : Shape) (f : ℕ) (zss : List (List ℕ)) (passed : foldRefusal s (
       carried-from s f (getD zss n []) (λ (x : ℕ). x < 256) (able-too .shape) (able-too .kinds) (lit< tt)
       (λ i x hi hx. disagreement-lt s (getD zss n []) i x bytes)
 
-  -- the wide stripe's disagreement is that stripe's own, times its weight
-  pub one-disagreement : (j p : ℕ) → j < f → p < s .l
+  -- by rows the wide stripe's disagreement is that stripe's own, times its weight
+  pub one-disagreement : byPoints s ≡ false → (j p : ℕ) → j < f → p < s .l
       → disagreement (wideShape s (length zss) f) (wideStripe s (length zss) f zss) j p ≡ gpow (n * (j * s .k)) ⊗ carried (kindOf s f) s (getD zss n []) j p
-  one-disagreement j p hj hp =
-      disagreement-sum s f zss passed long j p hj hp
+  one-disagreement rows j p hj hp =
+      disagreement-sum s f zss passed long rows j p hj hp
       ∙ map-one (j * s .k) (λ zs. carried (kindOf s f) s zs j p) zss n is (carried-lt j p hj hp) (others-none j p hj hp)
 
-  pub one-agrees : Codeword (wideShape s (length zss) f) (wideStripe s (length zss) f zss)
-      → (i p : ℕ) → i < parityNamed (kindOf s f) s f → p < s .l → disagreement s (getD zss n []) i p ≡ 0
-  one-agrees w =
+  abbrev Agrees : Type 0
+  Agrees = (i p : ℕ) → i < parityNamed (kindOf s f) s f → p < s .l → disagreement s (getD zss n []) i p ≡ 0
+
+  rows-agree : byPoints s ≡ false → Codeword (wideShape s (length zss) f) (wideStripe s (length zss) f zss) → Agrees
+  rows-agree rows w =
       carried-onto s f (getD zss n []) (able-too .shape) (able-too .kinds)
       (λ j p hj hp.
       product-zero (gpow (n * (j * s .k))) _ (gpow-lt (n * (j * s .k))) (gpow-pos (n * (j * s .k))) (carried-lt j p hj hp)
-      (sym (one-disagreement j p hj hp) ∙ codeword-agrees (wideShape s (length zss) f) (wideStripe s (length zss) f zss) j p w hj hp))
+      (sym (one-disagreement rows j p hj hp) ∙ codeword-agrees (wideShape s (length zss) f) (wideStripe s (length zss) f zss) j p w hj hp))
+
+  -- by points the plan of kind A names all parity bytes: the others are codewords, since the data of the wide stripe are bytes
+  points-agree : byPoints s ≡ true → IsA s f → Codeword (wideShape s (length zss) f) (wideStripe s (length zss) f zss) → Agrees
+  unfolding parityNamed
+  points-agree e h w i p hi hp = go (zero-or-not (disagreement s (getD zss n []) i p))
+    where
+      same : parityNamed (kindOf s f) s f ≡ s .r
+      same = ap (λ (κ : Kind). parityNamed κ s f) (h .kind) ∙ able-too .new-points e
+
+      datas : Bytes (wideData s zss)
+      datas =
+          subst Bytes (wide-data s f zss passed long)
+          (take-bytes (dataLength (wideShape s (length zss) f)) (wideStripe s (length zss) f zss) (w .bytes))
+
+      sound : (l : ℕ) → l < length zss → (l ≡ n → ⊥) → Codeword s (getD zss l [])
+      sound l m ne =
+          agrees-codeword s (getD zss l []) (bytes-part s zss long datas l m) (long l m)
+          (λ j o hj ho. others l m ne j o (subst (λ (x : ℕ). j < x) (sym same) hj) ho)
+
+      go : (disagreement s (getD zss n []) i p ≡ 0) ⊎ (disagreement s (getD zss n []) i p ≡ 0 → ⊥) → disagreement s (getD zss n []) i p ≡ 0
+      go (inl z) = z
+      go (inr wrong) =
+          absurd
+          (stale-shows s f zss passed long e (h .kind) n is sound bytes
+          (λ v. wrong (codeword-agrees s (getD zss n []) i p v (subst (λ (x : ℕ). i < x) same hi) hp)) w)
+
+  pub one-agrees : Codeword (wideShape s (length zss) f) (wideStripe s (length zss) f zss)
+      → (i p : ℕ) → i < parityNamed (kindOf s f) s f → p < s .l → disagreement s (getD zss n []) i p ≡ 0
+  unfolding parityNamed
+  one-agrees w = go (byPoints s) refl (able-too .kinds)
+    where
+      go : (b : Bool) → byPoints s ≡ b → IsA s f ⊎ (IsB s f ⊎ IsC s f) → Agrees
+      go false e k = rows-agree e w
+      go true e (inl h) = points-agree e h w
+      go true e (inr (inl h)) = rows-agree (prepared-by-rows s (able-too .shape) (let g = h .prepared .gains in omega arith)) w
+      go true e (inr (inr h)) = λ i p hi hp. absurd (not-suc-le-zero (subst (λ (κ : Kind). i < parityNamed κ s f) (h .kind) hi))
 
   -- So if exactly one stripe disagrees with its own parity in bytes that the plan names, the wide stripe is no codeword.
   pub one-shows : (i p : ℕ) → i < parityNamed (kindOf s f) s f → p < s .l → (disagreement s (getD zss n []) i p ≡ 0 → ⊥)

@@ -19,6 +19,7 @@ use Rattle.field.proofs.Bytes.{tabulate-length, tabulate-at, take-bytes, drop-b
 use Rattle.field.proofs.Cases.{below-or-from}
 use Rattle.lanes.proofs.Parts.{part-length}
 use Rattle.stripe.specs.declared.Shape.{Shape}
+use Rattle.stripe.specs.Stripe.{byPoints}
 use Rattle.stripe.proofs.Lent.{within}
 use Rattle.plan.specs.Plan.{foldRefusal, kindOf, bytesEach, bytesRead}
 use Rattle.plan.proofs.Foldable.{foldable}
@@ -29,17 +30,17 @@ use Rattle.fold.proofs.Laws.{fold-none, fold-cons, stripes-length, stri
 
 -- ---- one stripe more
 
-module _ (s : Shape) (f : ℕ) (xs : List ℕ) (bytes : Bytes xs) where
+module _ (s : Shape) (f : ℕ) (rows : byPoints s ≡ false) (xs : List ℕ) (bytes : Bytes xs) where
   by-places : (first : Bool) (ys : List ℕ) (xss : List (List ℕ))
       → ((i : ℕ) → i < f * s .l
       → stays first (i / s .l * s .k) (getD ys i 0) ⊕ share (kindOf s f) s xs (i / s .l) (i % s .l) ≡ foldByte (kindOf s f) s (xs ∷ xss) (i / s .l) (i % s .l))
       → taken s f first xs ys ≡ foldStripes s f (xs ∷ xss)
   unfolding taken
   by-places first ys xss h =
-      ext-getD 0 (taken s f first xs ys) (foldStripes s f (xs ∷ xss)) (tabulate-length (f * s .l) _ ∙ sym (stripes-length s f (xs ∷ xss)))
+      ext-getD 0 (taken s f first xs ys) (foldStripes s f (xs ∷ xss)) (tabulate-length (f * s .l) _ ∙ sym (stripes-length s f (xs ∷ xss) rows))
       (λ i l.
       let k : i < f * s .l = subst (λ (x : ℕ). i < x) (tabulate-length (f * s .l) _) l in
-      tabulate-at (f * s .l) _ i k ∙ h i k ∙ sym (stripes-place s f (xs ∷ xss) i k))
+      tabulate-at (f * s .l) _ i k ∙ h i k ∙ sym (stripes-place s f (xs ∷ xss) rows i k))
 
   -- the first stripe that is taken in
   pub taken-first : (ys : List ℕ) → taken s f true xs ys ≡ foldStripes s f (xs ∷ [])
@@ -58,7 +59,7 @@ module _ (s : Shape) (f : ℕ) (xs : List ℕ) (bytes : Bytes xs) where
   taken-next xss =
       by-places false (foldStripes s f xss) xss
       (λ i h.
-      ap (λ (v : ℕ). gpow (i / s .l * s .k) ⊗ v ⊕ share (kindOf s f) s xs (i / s .l) (i % s .l)) (stripes-place s f xss i h)
+      ap (λ (v : ℕ). gpow (i / s .l * s .k) ⊗ v ⊕ share (kindOf s f) s xs (i / s .l) (i % s .l)) (stripes-place s f xss rows i h)
       ∙ add-comm _ _ ∙ sym (fold-cons (kindOf s f) s xs xss (i / s .l) (i % s .l) bytes))
 
 -- ---- the stripes within the bytes read
@@ -86,13 +87,13 @@ bytes-part m o xs h = take-bytes m (drop o xs) (drop-bytes o xs h)
 abbrev pub from : Shape → ℕ → ℕ → ℕ → List ℕ → ℕ → List ℕ
 from s f m n d l = foldStripes s f (drop l (parts m n d))
 
-module _ (s : Shape) (f m n : ℕ) (d : List ℕ) (bytes : Bytes d) (l : ℕ) where
+module _ (s : Shape) (f m n : ℕ) (rows : byPoints s ≡ false) (d : List ℕ) (bytes : Bytes d) (l : ℕ) where
   part-same : take (l * m + m - l * m) (drop (l * m) d) ≡ take m (drop (l * m) d)
   part-same = let e : l * m + m - l * m ≡ m = omega arith in ap (λ (o : ℕ). take o (drop (l * m) d)) e
 
   sum-first : (ys zs : List ℕ) → l + 1 ≡ n → zs ≡ taken s f true (take (l * m + m - l * m) (drop (l * m) d)) ys → zs ≡ from s f m n d l
   sum-first ys zs e is =
-      is ∙ ap (λ (xs : List ℕ). taken s f true xs ys) part-same ∙ taken-first s f _ (bytes-part m (l * m) d bytes) ys
+      is ∙ ap (λ (xs : List ℕ). taken s f true xs ys) part-same ∙ taken-first s f rows _ (bytes-part m (l * m) d bytes) ys
       ∙ ap (foldStripes s f)
       (sym (part-is m n d l (omega arith)
       ∙ ap (λ (xss : List (List ℕ)). take m (drop (l * m) d) ∷ xss) (drop-of-length-le (parts m n d) {i = suc l} (omega (arith, parts-count m n d)))))
@@ -101,7 +102,7 @@ module _ (s : Shape) (f m n : ℕ) (d : List ℕ) (bytes : Bytes d) (l : ℕ) wh
       → zs ≡ taken s f false (take (l * m + m - l * m) (drop (l * m) d)) ys → zs ≡ from s f m n d l
   sum-next ys zs h e is =
       is ∙ ap₂ (taken s f false) part-same (e ∙ ap (from s f m n d) (add-one l))
-      ∙ taken-next s f _ (bytes-part m (l * m) d bytes) (drop (suc l) (parts m n d)) ∙ ap (foldStripes s f) (sym (part-is m n d l (omega arith)))
+      ∙ taken-next s f rows _ (bytes-part m (l * m) d bytes) (drop (suc l) (parts m n d)) ∙ ap (foldStripes s f) (sym (part-is m n d l (omega arith)))
 
   pub sum-turn : (ys zs : List ℕ) → l < n → (l + 1 < n → ys ≡ from s f m n d (l + 1))
       → zs ≡ taken s f (eqb l (n - 1)) (take (l * m + m - l * m) (drop (l * m) d)) ys → zs ≡ from s f m n d l

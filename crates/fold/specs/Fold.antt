@@ -1,5 +1,5 @@
--- The fold (document 01, 'Folding'): its answer for all bytes, codewords or not, from the joined bytes of the plan; and the bytes
--- that the plan names of whole stripes.
+-- The fold (document 01, 'Folding'; document 02, request 6): its answer for all bytes, codewords or not, from the joined bytes of the
+-- plan; and the bytes that the plan names of whole stripes.
 use Prim.Native.Nat.{ℕ, zero, suc, _+_, _-_, _*_, _/_, _%_}
 use mathlib.Core.Bool.{cond, _&&_}
 use mathlib.Core.List.{List, [], _∷_, _++_, map}
@@ -9,11 +9,12 @@ use Rattle.field.specs.Field.{_⊕_}
 use Rattle.field.specs.Bytes.{tabulate}
 use Rattle.field.specs.Row.{row}
 use Rattle.stripe.specs.declared.Shape.{Shape}
-use Rattle.stripe.specs.Stripe.{across, runLength, parityByte, dataOf, plainRuns}
+use Rattle.stripe.specs.Stripe.{across, runLength, byPoints, parityByte, parity, dataOf, plainRuns}
+use Rattle.equations.specs.Whole.{foldColumns}
 use Rattle.plan.specs.declared.Span.{Span}
 use Rattle.plan.specs.declared.Kind.{Kind}
 use Rattle.plan.specs.declared.Kind.the-variants.{A, B, C}
-use Rattle.plan.specs.Plan.{foldRefusal, kindOf, bytesEach, bytesRead, kindSpans, plan}
+use Rattle.plan.specs.Plan.{foldRefusal, kindOf, bytesEach, bytesRead, kindSpans, plan, wideShape}
 
 -- ---- kind B: what is read of a stripe is a part of each data column, the runs r to t-1, then the parity columns
 
@@ -38,7 +39,7 @@ runShare s xs j b e =
     (readParity s xs b (j * runLength s + e) ⊕ readRow s xs b j e))
     (readRow s xs j b e)
 
--- ---- all kinds
+-- ---- by rows, all kinds
 
 -- what a stripe adds to wide row j at place p, from the bytes read of it. A: its parity column j. B: run by run. C: row j of its data
 unfoldable pub share : Kind → Shape → List ℕ → ℕ → ℕ → ℕ
@@ -50,9 +51,28 @@ share C s xs j p = row j (across xs (s .l) p 0 (s .k))
 unfoldable pub foldByte : Kind → Shape → List (List ℕ) → ℕ → ℕ → ℕ
 foldByte κ s xss j p = row (j * s .k) (map (λ xs. share κ s xs j p) xss)
 
--- the f parity columns of the wide stripe, in order, from the bytes read of each stripe
+-- the f parity columns of the wide stripe, in order
+unfoldable pub foldByRows : Shape → ℕ → List (List ℕ) → List ℕ
+foldByRows s f xss = tabulate (f * s .l) (λ i. foldByte (kindOf s f) s xss (i / s .l) (i % s .l))
+
+-- ---- r from 4 to 16: the code is given by check equations
+
+-- lists one after the other
+unfoldable pub joined : List (List ℕ) → List ℕ
+joined [] = []
+joined (xs ∷ xss) = xs ++ joined xss
+
+-- the parity columns of the wide stripe. A: from the parity columns of each stripe. C: the parity of all data in order. B is by rows only
+unfoldable pub foldByPoints : Kind → Shape → ℕ → List (List ℕ) → List ℕ
+foldByPoints A s f xss = foldColumns (s .k) (s .r) (s .l) xss
+foldByPoints B s f xss = []
+foldByPoints C s f xss = parity (wideShape s (length xss) f) (joined xss)
+
+-- ---- any r
+
+-- the parity columns of the wide stripe, in order, from the bytes read of each stripe
 unfoldable pub foldStripes : Shape → ℕ → List (List ℕ) → List ℕ
-foldStripes s f xss = tabulate (f * s .l) (λ i. foldByte (kindOf s f) s xss (i / s .l) (i % s .l))
+foldStripes s f xss = cond (byPoints s) (foldByPoints (kindOf s f) s f xss) (foldByRows s f xss)
 
 -- n parts of m bytes each
 unfoldable pub parts : ℕ → ℕ → List ℕ → List (List ℕ)
@@ -75,11 +95,6 @@ unfoldable pub foldFilled : Shape → ℕ → ℕ → List ℕ → List ℕ → 
 foldFilled s n f xs ys = cond (eqb (foldVerdict s n f (length xs) (length ys)) 0) (foldOf s n f xs) ys
 
 -- ---- whole stripes
-
--- lists one after the other
-unfoldable pub joined : List (List ℕ) → List ℕ
-joined [] = []
-joined (xs ∷ xss) = xs ++ joined xss
 
 -- the data of the wide stripe: the data of all stripes in order
 unfoldable pub wideData : Shape → List (List ℕ) → List ℕ
@@ -121,7 +136,7 @@ runCarried s zs j b e =
     (cond (ltb j (s .r)) (disagreement s zs j (b * runLength s + e)) (disagreement s zs b (j * runLength s + e)))
     0
 
--- the disagreement of a stripe that its fold carries on to place p of wide row j
+-- the disagreement of a stripe that its fold, by rows, carries on to place p of wide row j
 unfoldable pub carried : Kind → Shape → List ℕ → ℕ → ℕ → ℕ
 carried A s zs j p = disagreement s zs j p
 carried B s zs j p = runCarried s zs j (p / runLength s) (p % runLength s)

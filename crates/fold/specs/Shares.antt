@@ -1,8 +1,9 @@
--- How a fold that reads parity, kind A or B, is computed: stripe by stripe, from the last to the first, and run by run of the wide parity.
--- What a stripe adds to a run is stored in the bytes read of it, in the rows of its data, or in both.
+-- How a fold by rows that reads parity, kind A or B, is computed: stripe by stripe, from the last to the first, and run by run of the
+-- wide parity. What a stripe adds to a run is stored in the bytes read of it, in the rows of its data, or in both. A fold by points that
+-- reads parity, kind A, takes all parity columns at once.
 use Prim.Native.Nat.{ℕ, _+_, _-_, _*_, _/_, _%_, _<_, _≤_}
 use mathlib.Core.Path.{_≡_}
-use mathlib.Core.Bool.{Bool, true, cond}
+use mathlib.Core.Bool.{Bool, true, false, cond}
 use mathlib.Core.List.{List}
 use lib.Dec.{ltb, eqb}
 use lib.ListN.{length, getD, take, drop}
@@ -12,18 +13,27 @@ use Rattle.field.specs.Row.{row}
 use Rattle.lanes.specs.Lanes.{onto}
 use Rattle.stripe.specs.declared.Shape.{Shape}
 use Rattle.stripe.specs.Shape.{shapeRefusal}
-use Rattle.stripe.specs.Stripe.{across, runLength, plainRuns}
-use Rattle.plan.specs.declared.Kind.the-variants.{C}
-use Rattle.plan.specs.Plan.{newAllowed, kindOf}
+use Rattle.stripe.specs.Stripe.{across, runLength, byPoints, plainRuns}
+use Rattle.plan.specs.declared.Kind.the-variants.{A, C}
+use Rattle.plan.specs.Plan.{foldRefusal, newAllowed, kindOf, bytesRead}
 use Rattle.fold.specs.declared.shares.Share.{Share}
 use Rattle.fold.specs.declared.shares.Share.the-variants.{Read, Row, Both}
 use Rattle.fold.specs.Fold.{partBytes, share}
 
--- a fold that reads parity, of an allowed shape and an allowed f
+-- a fold by rows that reads parity, of an allowed shape and an allowed f
 pub record ReadsParity (s : Shape) (f : ℕ) : Type 0 where
   pub shape : shapeRefusal s ≡ 0
-  pub new : newAllowed (s .t) f ≡ true
+  pub new : newAllowed (s .r) (s .t) f ≡ true
+  pub rows : byPoints s ≡ false
   pub kind : kindOf s f ≡ C → ⊥
+
+-- a fold by points that reads parity, of n stripes of an allowed shape, is lent a bytes to read and b to fill; its f is r
+pub record ReadsColumns (s : Shape) (n a b : ℕ) : Type 0 where
+  pub passed : foldRefusal s n (s .r) ≡ 0
+  pub points : byPoints s ≡ true
+  pub kind : kindOf s (s .r) ≡ A
+  pub read-long : a ≡ bytesRead s n (s .r)
+  pub parity-long : b ≡ s .r * s .l
 
 -- ys holds rows 0 to f-1 of the data read of a stripe, one after the other; of a plain stripe no data are read
 pub record IsRows (s : Shape) (f : ℕ) (xs ys : List ℕ) : Type 0 where

@@ -10,8 +10,10 @@ use plan::counts::bytes_read;
 use plan::fold_refusal;
 use plan::kind_of;
 use plan::wide_shape;
+use stripe::MOST_ROWS;
 use stripe::Shape;
 
+mod by_points;
 mod runs;
 mod shares;
 mod stripes;
@@ -46,13 +48,18 @@ pub fn fold(s: Shape, stripes: usize, f: usize, read: &[u8], parity: &mut [u8]) 
     0
 }
 
-// The parity columns of the wide stripe. Kind C reads all the data, so it is the encoding of the wide stripe.
+// The parity columns of the wide stripe. Kind C reads all the data, so it is the encoding of the wide stripe. Else the stripes are by
+// points where they have more than MOST_ROWS parity columns.
 fn fill(s: Shape, stripes: usize, f: usize, read: &[u8], parity: &mut [u8])
     requires { ⌜ (foldRefusal s stripes f ≡ 0) × ((length (now read) ≡ bytesRead s stripes f) × (length (now parity) ≡ f * s .l)) ⌝ }
     ensures { λ _. ⌜ now (parity .exit) ≡ foldOf s stripes f (now (read .entry)) ⌝ }
 {
     if let Kind::C = kind_of(s, f) {
         encode(wide_shape(s, stripes, f), read, parity);
+        return;
+    }
+    if MOST_ROWS < s.r {
+        by_points::fill_by_points(s, stripes, read, parity);
         return;
     }
     stripes::fill_parity(s, stripes, f, read, parity);

@@ -1,5 +1,5 @@
-// The stripes of a fold that reads parity, from the last to the first: each is taken into the wide parity. The rows of what is read of a
-// prepared stripe's data are formed first, all at once, by the encoder.
+// The stripes of a fold by rows that reads parity, from the last to the first: each is taken into the wide parity. The rows of what is read
+// of a prepared stripe's data are formed first, all at once, by the encoder.
 ghost use mathlib.Core.Path.{_≡_};
 ghost use Prim.Native.Nat.{_*_};
 ghost use lib.ListN.{length};

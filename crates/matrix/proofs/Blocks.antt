@@ -7,7 +7,7 @@ use Prim.Native.Nat.{ℕ, _+_, _-_, _*_, _/_, _%_, _<_, _≤_}
 use native.Mathlib.Nat.{mul-le-mul-right, suc-mul, not-suc-le-zero}
 use native.Mathlib.Omega.{arith}
 use lib.Dec.{eqb}
-use lib.ListN.{getD}
+use lib.ListN.{length, getD}
 use borrow.Author.Tests.{eq-eqb, ne-eqb}
 use Rattle.field.specs.Field.{_⊕_, _⊗_, times}
 use Rattle.field.specs.Bytes.{Bytes}
@@ -99,53 +99,55 @@ pub all-small : (ms : List ℕ) (m i n rows : ℕ) (es : List ℕ) → AllNumber
 all-small ms m i n rows es h s hs b hb g hg =
     subst (λ (x : ℕ). x < 16) (sym (h .at s hs g b hg hb)) (index-small (inGroup n g) _ (group-most n g .0) (λ j. digit _))
 
-row-value : (xs : List ℕ) (at l w n row q : ℕ) (c : ℕ → ℕ) (t es : List ℕ) → Bytes xs → q < w
-    → RowNumbered c row n ((n + 3) / 4) es → GroupsIn xs at l w n ((n + 3) / 4) t
-    → rowValue t es row ((n + 3) / 4) q ≡ sumTo n (λ j. c j ⊗ getD xs (at + j * l + q) 0)
+row-value : (xs cs : List ℕ) (from stride w i n row q : ℕ) (c : ℕ → ℕ) (t es : List ℕ) → Bytes xs → q < w
+    → RowNumbered c row n ((n + 3) / 4) es → GroupsIn xs cs from stride w i n ((n + 3) / 4) t
+    → rowValue t es row ((n + 3) / 4) q ≡ sumTo n (λ j. c j ⊗ getD xs (from + getD cs (i + j) 0 * stride + q) 0)
 unfolding rowValue
-row-value xs at l w n row q c t es bytes k numbered groups =
-    fall-products n c (λ j. getD xs (at + j * l + q) 0) _ (λ j. bytes (at + j * l + q)) bit
+row-value xs cs from stride w i n row q c t es bytes k numbered groups = fall-products n c (λ j. byte (i + j)) _ (λ j. bytes _) bit
   where
-    bit : (d : ℕ) → d < 8 → picked t es (row + d * 8) ((n + 3) / 4) q ≡ sumTo n (λ j. times (halved d (c j) % 2) (getD xs (at + j * l + q) 0))
+    byte : ℕ → ℕ
+    byte j = getD xs (from + getD cs j 0 * stride + q) 0
+
+    bit : (d : ℕ) → d < 8 → picked t es (row + d) ((n + 3) / 4) q ≡ sumTo n (λ j. times (halved d (c j) % 2) (byte (i + j)))
     bit d hd =
-        sum-same ((n + 3) / 4) _ _ one ∙ groups-sum n (λ j. times (halved d (c j) % 2) (getD xs (at + j * l + q) 0))
+        sum-same ((n + 3) / 4) _ _ one ∙ groups-sum n (λ j. times (halved d (c j) % 2) (byte (i + j)))
       where
         one : (g : ℕ) → g < (n + 3) / 4
-            → getD t ((g * 16 + getD es (row + d * 8 + g) 0) * 64 + q) 0
-            ≡ sumTo (inGroup n g) (λ j. times (halved d (c (g * 4 + j)) % 2) (getD xs (at + (g * 4 + j) * l + q) 0))
+            → getD t ((g * 16 + getD es (row + d + g * 8) 0) * 64 + q) 0
+            ≡ sumTo (inGroup n g) (λ j. times (halved d (c (g * 4 + j)) % 2) (byte (i + (g * 4 + j))))
         one g hg =
             ap (λ (x : ℕ). getD t ((g * 16 + x) * 64 + q) 0) (numbered g d hg hd)
             ∙ groups g hg (λ j. halved d (c (g * 4 + j)) % 2) (λ j. digit (halved d (c (g * 4 + j)))) q k
-            ∙ sum-same (inGroup n g) _ _ (λ j z. ap (λ (x : ℕ). times (halved d (c (g * 4 + j)) % 2) (getD xs x 0)) (omega arith))
+            ∙ sum-same (inGroup n g) _ _ (λ j z. ap (λ (x : ℕ). times (halved d (c (g * 4 + j)) % 2) (byte x)) (omega arith))
 
 -- ---- the blocks of a slab
 
 -- ps holds n columns of each row at the places below e, and i columns from there on, where i is not 0
-pub record Edge (ms : List ℕ) (m : ℕ) (xs : List ℕ) (from stride count rows n i e : ℕ) (ps : List ℕ) : Type 0 where
-  pub below : (s p : ℕ) → s < rows → p < e → p < count → getD ps (s * count + p) 0 ≡ upTo ms m xs from stride n s p
-  pub above : (s p : ℕ) → s < rows → e ≤ p → p < count → 0 < i → getD ps (s * count + p) 0 ≡ upTo ms m xs from stride i s p
+pub record Edge (ms cs xs : List ℕ) (from stride count rows n i e : ℕ) (ps : List ℕ) : Type 0 where
+  pub below : (s p : ℕ) → s < rows → p < e → p < count → getD ps (s * count + p) 0 ≡ upTo ms cs xs from stride n s p
+  pub above : (s p : ℕ) → s < rows → e ≤ p → p < count → 0 < i → getD ps (s * count + p) 0 ≡ upTo ms cs xs from stride i s p
 
-module _ (ms : List ℕ) (m : ℕ) (xs : List ℕ) (from stride count rows i n : ℕ) where
-  pub edge-start : (ps : List ℕ) → Held ms m xs from stride count rows i ps → Edge ms m xs from stride count rows (i + n) i 0 ps
+module _ (ms cs xs : List ℕ) (from stride count rows i n : ℕ) where
+  pub edge-start : (ps : List ℕ) → Held ms cs xs from stride count rows i ps → Edge ms cs xs from stride count rows (i + n) i 0 ps
   edge-start ps h = record { below = λ s p a b. absurd (not-suc-le-zero b); above = λ s p a b k z. h .at s p a k z }
 
-  pub edge-done : (e : ℕ) (ps : List ℕ) → count ≤ e → Edge ms m xs from stride count rows (i + n) i e ps
-      → Held ms m xs from stride count rows (i + n) ps
+  pub edge-done : (e : ℕ) (ps : List ℕ) → count ≤ e → Edge ms cs xs from stride count rows (i + n) i e ps
+      → Held ms cs xs from stride count rows (i + n) ps
   edge-done e ps a h = record { at = λ s p hs hp z. h .below s p hs (omega arith) hp }
 
-  pub edge-turn : (es t ps qs : List ℕ) (at w : ℕ) (fresh : Bool) → Bytes xs → AllNumbered ms m i n rows es
+  pub edge-turn : (es t ps qs : List ℕ) (at w : ℕ) (fresh : Bool) → Bytes xs → AllNumbered ms (length cs) i n rows es
       → fresh ≡ eqb i 0 → at + w ≤ count
-      → GroupsIn xs (from + i * stride + at) stride w n ((n + 3) / 4) t → Rowed t es ((n + 3) / 4) fresh count at w rows ps qs
-      → Edge ms m xs from stride count rows (i + n) i at ps → Edge ms m xs from stride count rows (i + n) i (at + w) qs
+      → GroupsIn xs cs (from + at) stride w i n ((n + 3) / 4) t → Rowed t es ((n + 3) / 4) fresh count at w rows ps qs
+      → Edge ms cs xs from stride count rows (i + n) i at ps → Edge ms cs xs from stride count rows (i + n) i (at + w) qs
   edge-turn es t ps qs at w fresh bytes numbered is fits groups made h =
       record { below = below; above = λ s p hs a k z. made .off s p k (inr (inr a)) ∙ h .above s p hs (omega arith) k z }
     where
       term : ℕ → ℕ → ℕ → ℕ
-      term s p j = getD ms (s * m + j) 0 ⊗ getD xs (from + j * stride + p) 0
+      term s p j = getD ms (s * length cs + j) 0 ⊗ getD xs (from + getD cs j 0 * stride + p) 0
 
       value : (s q : ℕ) → s < rows → q < w → rowValue t es (s * 64) ((n + 3) / 4) q ≡ sumTo n (λ j. term s (at + q) (i + j))
       value s q hs k =
-          row-value xs (from + i * stride + at) stride w n (s * 64) q (λ j. getD ms (s * m + i + j) 0) t es bytes k (numbered .at s hs) groups
+          row-value xs cs (from + at) stride w i n (s * 64) q (λ j. getD ms (s * length cs + i + j) 0) t es bytes k (numbered .at s hs) groups
           ∙ sum-same n _ _ (λ j z. ap₂ (λ (x y : ℕ). getD ms x 0 ⊗ getD xs y 0) (omega arith) (omega arith))
 
       before : (s q : ℕ) → s < rows → q < w → cond fresh 0 (getD ps (s * count + at + q) 0) ≡ sumTo i (term s (at + q))
@@ -163,36 +165,35 @@ module _ (ms : List ℕ) (m : ℕ) (xs : List ℕ) (from stride count rows i n :
               ap (λ (b : Bool). cond b 0 (getD ps (s * count + at + q) 0)) (is ∙ ne-eqb i 0 z)
               ∙ ap (λ (x : ℕ). getD ps x 0) place ∙ h .above s (at + q) hs (omega arith) (omega arith) pos
 
-      inside : (s q : ℕ) → s < rows → q < w → getD qs (s * count + (at + q)) 0 ≡ upTo ms m xs from stride (i + n) s (at + q)
+      inside : (s q : ℕ) → s < rows → q < w → getD qs (s * count + (at + q)) 0 ≡ upTo ms cs xs from stride (i + n) s (at + q)
       inside s q hs k =
           let place : s * count + (at + q) ≡ s * count + at + q = omega arith in
           ap (λ (x : ℕ). getD qs x 0) place ∙ made .on s q hs k ∙ ap₂ _⊕_ (before s q hs k) (value s q hs k)
           ∙ sym (sum-append i n (term s (at + q)))
 
-      below : (s p : ℕ) → s < rows → p < at + w → p < count → getD qs (s * count + p) 0 ≡ upTo ms m xs from stride (i + n) s p
+      below : (s p : ℕ) → s < rows → p < at + w → p < count → getD qs (s * count + p) 0 ≡ upTo ms cs xs from stride (i + n) s p
       below s p hs a k = ⊎-elim old new (below-or-from p at)
         where
-          old : p < at → getD qs (s * count + p) 0 ≡ upTo ms m xs from stride (i + n) s p
+          old : p < at → getD qs (s * count + p) 0 ≡ upTo ms cs xs from stride (i + n) s p
           old b = made .off s p k (inr (inl b)) ∙ h .below s p hs b k
 
-          new : at ≤ p → getD qs (s * count + p) 0 ≡ upTo ms m xs from stride (i + n) s p
+          new : at ≤ p → getD qs (s * count + p) 0 ≡ upTo ms cs xs from stride (i + n) s p
           new b =
               let place : at + (p - at) ≡ p = omega arith in
-              subst (λ (x : ℕ). getD qs (s * count + x) 0 ≡ upTo ms m xs from stride (i + n) s x) place (inside s (p - at) hs (omega arith))
+              subst (λ (x : ℕ). getD qs (s * count + x) 0 ≡ upTo ms cs xs from stride (i + n) s x) place (inside s (p - at) hs (omega arith))
 
-module _ (ms : List ℕ) (m : ℕ) (xs : List ℕ) (from stride count rows : ℕ) (ps : List ℕ) where
+module _ (ms cs xs : List ℕ) (from stride count rows : ℕ) (ps : List ℕ) where
   -- no columns yet
-  pub held-none : Held ms m xs from stride count rows 0 ps
+  pub held-none : Held ms cs xs from stride count rows 0 ps
   held-none = record { at = λ s p hs hp z. absurd (not-suc-le-zero z) }
 
-  pub held-done : (i : ℕ) → i ≡ m → Held ms m xs from stride count rows i ps → Held ms m xs from stride count rows m ps
-  held-done i e h = subst (λ (x : ℕ). Held ms m xs from stride count rows x ps) e h
+  pub held-done : (i n : ℕ) → i ≡ n → Held ms cs xs from stride count rows i ps → Held ms cs xs from stride count rows n ps
+  held-done i n e h = subst (λ (x : ℕ). Held ms cs xs from stride count rows x ps) e h
 
 -- ---- what is taken lies in the columns, and is not nothing
 
-pub slab-inside : (xs : List ℕ) (from stride m count i n at w : ℕ) → i + n ≤ m → at + w ≤ count → Inside xs from stride m count
-    → Inside xs (from + i * stride + at) stride n w
-slab-inside xs from stride m count i n at w h f inside j k = omega (arith, inside (i + j) (omega arith))
+pub part-inside : (xs cs : List ℕ) (from stride count at w : ℕ) → at + w ≤ count → Inside xs cs from stride count → Inside xs cs (from + at) stride w
+part-inside xs cs from stride count at w fits inside i less = omega (arith, inside i less)
 
 pub least-some : (b a w : ℕ) → 0 < b → 0 < a → (b ≤ w) ⊎ (a ≤ w) → 0 < w
 least-some b a w hb ha (inl h) = omega arith

@@ -12,7 +12,7 @@ use Rattle.field.specs.Bytes.{tabulate}
 use Rattle.field.proofs.Xor.{zero-add, add-zero, add-comm, add-assoc, add-lt, sums}
 use Rattle.field.proofs.Mul.{mul-add, mul-zero, bits-doubled, doubled-lt}
 use Rattle.field.proofs.Below.{below}
-use Rattle.matrix.specs.Matrix.{dot}
+use Rattle.points.specs.Lagrange.{dot}
 use Rattle.matrix.specs.Sums.{sumTo, halved, fall}
 
 -- ---- sums

@@ -76,19 +76,20 @@ getD-zeros zero q = refl
 getD-zeros (suc n) zero = refl
 getD-zeros (suc n) (suc q) = getD-zeros n q
 
-module _ (xs : List ℕ) (at l w g : ℕ) (few : w ≤ 64) where
-  pub summed-start : (t u : List ℕ) → Part (λ (x y : ℕ). y) t (g * 1024) 64 (replicate 64 0) u → Summed xs at l w g 0 u u
+module _ (xs cs : List ℕ) (from stride w i g : ℕ) (few : w ≤ 64) where
+  pub summed-start : (t u : List ℕ) → Part (λ (x y : ℕ). y) t (g * 1024) 64 (replicate 64 0) u → Summed xs cs from stride w i g 0 u u
   summed-start t u put =
       record {
         long = refl;
         sums = λ f hf q h. ap (λ (x : ℕ). getD u ((g * 16 + x) * 64 + q) 0) (index-none f) ∙ ap (λ (x : ℕ). getD u x 0) (omega arith)
             ∙ put .inside q (omega arith) ∙ getD-zeros 64 q ∙ sym (sum-none _);
         zero = λ q h. put .inside q h ∙ getD-zeros 64 q;
-        rest = λ i h. refl;
+        rest = λ k h. refl;
       }
 
-  pub summed-turn : (j have : ℕ) (d t u v : List ℕ) → have ≡ 2 ^ j → j < 4 → Summed xs at l w g j t u
-      → ((q : ℕ) → q < w → getD d q 0 ≡ getD xs (at + j * l + q) 0) → Widened g have have d u v → Summed xs at l w g (j + 1) t v
+  pub summed-turn : (j have : ℕ) (d t u v : List ℕ) → have ≡ 2 ^ j → j < 4 → Summed xs cs from stride w i g j t u
+      → ((q : ℕ) → q < w → getD d q 0 ≡ getD xs (from + getD cs (i + j) 0 * stride + q) 0) → Widened g have have d u v
+      → Summed xs cs from stride w i g (j + 1) t v
   summed-turn j have d t u v e less s read wide =
       record {
         long = wide .long ∙ s .long;
@@ -97,11 +98,14 @@ module _ (xs : List ℕ) (at l w g : ℕ) (few : w ≤ 64) where
         rest = rest;
       }
     where
-      Holds : (ℕ → ℕ) → ℕ → Type 0
-      Holds f n = (q : ℕ) → q < w → getD v ((g * 16 + index n f) * 64 + q) 0 ≡ sumTo n (λ i. times (f i) (getD xs (at + i * l + q) 0))
+      term : (ℕ → ℕ) → ℕ → ℕ → ℕ
+      term f q k = times (f k) (getD xs (from + getD cs (i + k) 0 * stride + q) 0)
 
-      one-more : (f : ℕ → ℕ) → ((i : ℕ) → f i < 2) → (q : ℕ) → q < w
-          → getD v ((g * 16 + index (suc j) f) * 64 + q) 0 ≡ sumTo (suc j) (λ i. times (f i) (getD xs (at + i * l + q) 0))
+      Holds : (ℕ → ℕ) → ℕ → Type 0
+      Holds f n = (q : ℕ) → q < w → getD v ((g * 16 + index n f) * 64 + q) 0 ≡ sumTo n (term f q)
+
+      one-more : (f : ℕ → ℕ) → ((k : ℕ) → f k < 2) → (q : ℕ) → q < w
+          → getD v ((g * 16 + index (suc j) f) * 64 + q) 0 ≡ sumTo (suc j) (term f q)
       one-more f hf q h =
           ap (λ (x : ℕ). getD v ((g * 16 + x) * 64 + q) 0) (index-more j f ∙ ap (λ (x : ℕ). index j f + f j * x) (sym e))
           ∙ go (f j) (hf j) ∙ sym (sum-more j _)
@@ -111,7 +115,7 @@ module _ (xs : List ℕ) (at l w g : ℕ) (few : w ≤ 64) where
 
           go : (b : ℕ) → b < 2
               → getD v ((g * 16 + (index j f + b * have)) * 64 + q) 0
-              ≡ sumTo j (λ i. times (f i) (getD xs (at + i * l + q) 0)) ⊕ times b (getD xs (at + j * l + q) 0)
+              ≡ sumTo j (term f q) ⊕ times b (getD xs (from + getD cs (i + j) 0 * stride + q) 0)
           go zero k =
               ap (λ (x : ℕ). getD v x 0) (omega arith)
               ∙ wide .rest ((g * 16 + index j f) * 64 + q) (inl (omega (arith, low))) ∙ s .sums f hf q h
@@ -120,24 +124,24 @@ module _ (xs : List ℕ) (at l w g : ℕ) (few : w ≤ 64) where
               ap (λ (x : ℕ). getD v x 0) (omega arith) ∙ wide .new (index j f) q low (omega arith) ∙ ap₂ _⊕_ (s .sums f hf q h) (read q h)
           go (suc (suc b)) k = omega arith
 
-      rest : (i : ℕ) → (i < g * 1024) ⊎ (g * 1024 + 1024 ≤ i) → getD v i 0 ≡ getD t i 0
-      rest i (inl h) = wide .rest i (inl (omega arith)) ∙ s .rest i (inl h)
-      rest i (inr h) = wide .rest i (inr (omega (arith, pow-small j less))) ∙ s .rest i (inr h)
+      rest : (k : ℕ) → (k < g * 1024) ⊎ (g * 1024 + 1024 ≤ k) → getD v k 0 ≡ getD t k 0
+      rest k (inl h) = wide .rest k (inl (omega arith)) ∙ s .rest k (inl h)
+      rest k (inr h) = wide .rest k (inr (omega (arith, pow-small j less))) ∙ s .rest k (inr h)
 
   -- all columns, after the sum of none was put
-  pub summed-done : (n j : ℕ) (t u v : List ℕ) → n ≡ j → Part (λ (x y : ℕ). y) t (g * 1024) 64 (replicate 64 0) u → Summed xs at l w g j u v
-      → Summed xs at l w g n t v
+  pub summed-done : (n j : ℕ) (t u v : List ℕ) → n ≡ j → Part (λ (x y : ℕ). y) t (g * 1024) 64 (replicate 64 0) u → Summed xs cs from stride w i g j u v
+      → Summed xs cs from stride w i g n t v
   summed-done n j t u v e put s =
       record {
         long = s .long ∙ put .long;
-        sums = subst (λ (x : ℕ). GroupIn xs at l w g x v) (sym e) (s .sums);
+        sums = subst (λ (x : ℕ). GroupIn xs cs from stride w i g x v) (sym e) (s .sums);
         zero = s .zero;
-        rest = λ i h. s .rest i h ∙ put .outside i (far i h);
+        rest = λ k h. s .rest k h ∙ put .outside k (far k h);
       }
     where
-      far : (i : ℕ) → (i < g * 1024) ⊎ (g * 1024 + 1024 ≤ i) → (i < g * 1024) ⊎ (g * 1024 + 64 ≤ i)
-      far i (inl h) = inl h
-      far i (inr h) = inr (omega arith)
+      far : (k : ℕ) → (k < g * 1024) ⊎ (g * 1024 + 1024 ≤ k) → (k < g * 1024) ⊎ (g * 1024 + 64 ≤ k)
+      far k (inl h) = inl h
+      far k (inr h) = inr (omega arith)
 
 -- the next power of two
 pub power-next : (have j : ℕ) → have ≡ 2 ^ j → have * 2 ≡ 2 ^ (j + 1)

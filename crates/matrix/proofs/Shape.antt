@@ -1,21 +1,22 @@
 -- Numbers that fit, as plain facts, and the rows as one list.
-use mathlib.Core.Path.{_≡_, refl, sym, ap, ap₂, _∙_}
+use mathlib.Core.Path.{_≡_, refl, sym, ap, ap₂, _∙_, subst}
 use mathlib.Core.Bool.{Bool, true, false, cond, _&&_, and-eq-true-iff}
-use mathlib.Core.List.{List}
-use mathlib.Core.Logic.{_⊎_, inl, inr}
-use Prim.Native.Nat.{ℕ, _+_, _-_, _*_, _/_, _<_, _≤_}
-use native.Mathlib.Nat.{mul-le-mul-right, mul-comm, zero-mul, le-div-iff-mul-le}
+use mathlib.Core.List.{List, [], _∷_}
+use mathlib.Core.Logic.{_⊎_, ⊎-elim}
+use Prim.Native.Nat.{ℕ, zero, suc, _+_, _-_, _*_, _/_, _<_, _≤_, zero-le, suc-le-suc}
+use native.Mathlib.Nat.{mul-le-mul-right, mul-comm, zero-mul, le-div-iff-mul-le, le-of-suc-le-suc, not-suc-le-zero}
 use native.Mathlib.Omega.{arith}
 use lib.Dec.{leb}
-use lib.ListN.{length, getD}
-use borrow.Author.Tests.{leb-true, leb-false, eqb-true, le-leb, lt-leb, eq-eqb}
+use lib.ListN.{length, getD, length-map}
+use borrow.Author.Tests.{leb-true, eqb-true, le-leb, lt-leb, eq-eqb}
 use Rattle.field.specs.Field.{_⊗_}
-use Rattle.field.proofs.Cases.{below-or-from}
+use Rattle.field.proofs.Cases.{below-or-from, and-left, and-right}
 use Rattle.field.proofs.Bytes.{tabulate-length, tabulate-at}
-use Rattle.stripe.specs.Stripe.{across}
-use Rattle.stripe.proofs.Places.{place-lt, place-column, place-byte, by-places, across-length, across-at}
-use Rattle.matrix.specs.Matrix.{dot, rowOf, applied, numbersFit, columnsFit, matrixFits, becomes}
-use Rattle.matrix.specs.Sums.{Inside, upTo, Held}
+use Rattle.lanes.proofs.Onto.{map-at}
+use Rattle.stripe.proofs.Places.{place-lt, place-column, place-byte, by-places}
+use Rattle.points.specs.Lagrange.{dot}
+use Rattle.matrix.specs.Matrix.{rowOf, bytesAt, applied, numbersFit, columnsFit, matrixFits, becomes}
+use Rattle.matrix.specs.Sums.{upTo, Held, Among, Greatest}
 use Rattle.matrix.proofs.Horner.{sum-same, dot-sum}
 
 -- ---- numbers that fit
@@ -45,19 +46,39 @@ numbers-fit rows m count e =
       places-most = leb-true _ _ (a .1);
     }
 
-pub record Lengths (rows m from stride count a b c : ℕ) : Type 0 where
-  pub numbers : Numbers rows m count
-  pub matrix : a ≡ rows * m
-  pub columns : from + (m - 1) * stride + count ≤ b
+pub record Lengths (rows : ℕ) (cs : List ℕ) (from stride count a b c : ℕ) : Type 0 where
+  pub numbers : Numbers rows (length cs) count
+  pub matrix : a ≡ rows * length cs
+  pub columns : (i : ℕ) → i < length cs → from + getD cs i 0 * stride + count ≤ b
   pub out : c ≡ rows * count
 
-pub lengths-fit : (rows m from stride count a b c : ℕ) → matrixFits rows m from stride count a b c ≡ true → Lengths rows m from stride count a b c
-unfolding matrixFits columnsFit
-lengths-fit rows m from stride count a b c e =
+columns-end : (cs : List ℕ) (b from stride count : ℕ) → columnsFit cs b from stride count ≡ true
+    → (i : ℕ) → i < length cs → from + getD cs i 0 * stride + count ≤ b
+unfolding columnsFit
+columns-end [] b from stride count e i h = absurd (not-suc-le-zero h)
+columns-end (c ∷ cs) b from stride count e zero h = leb-true _ _ (and-left (leb (from + c * stride + count) b) _ e)
+columns-end (c ∷ cs) b from stride count e (suc i) h =
+    columns-end cs b from stride count (and-right (leb (from + c * stride + count) b) _ e) i (le-of-suc-le-suc h)
+
+pub lengths-fit : (rows : ℕ) (cs : List ℕ) (from stride count a b c : ℕ) → matrixFits rows cs from stride count a b c ≡ true
+    → Lengths rows cs from stride count a b c
+unfolding matrixFits
+lengths-fit rows cs from stride count a b c e =
     let x = and-eq-true-iff _ _ .0 e in
     let y = and-eq-true-iff _ _ .0 (x .0) in
     let z = and-eq-true-iff _ _ .0 (y .0) in
-    record { numbers = numbers-fit rows m count (z .0); matrix = eqb-true _ _ (z .1); columns = leb-true _ _ (y .1); out = eqb-true _ _ (x .1) }
+    record {
+      numbers = numbers-fit rows (length cs) count (z .0);
+      matrix = eqb-true _ _ (z .1);
+      columns = columns-end cs b from stride count (y .1);
+      out = eqb-true _ _ (x .1);
+    }
+
+-- two tests that pass together
+same-test : (a b : Bool) → (a ≡ true → b ≡ true) → (b ≡ true → a ≡ true) → a ≡ b
+same-test true b f g = sym (f refl)
+same-test false true f g = g refl
+same-test false false f g = refl
 
 and-of : (a b : Bool) → a ≡ true → b ≡ true → a && b ≡ true
 and-of a b e f = ap (λ (x : Bool). x && b) e ∙ f
@@ -68,88 +89,121 @@ fit-numbers rows m count h =
     let some = and-of _ _ (and-of _ _ (le-leb _ _ (h .rows-some)) (le-leb _ _ (h .rows-most))) (le-leb _ _ (h .columns-some)) in
     and-of _ _ (and-of _ _ (and-of _ _ some (le-leb _ _ (h .columns-most))) (le-leb _ _ (h .places-some))) (le-leb _ _ (h .places-most))
 
-pub fit-lengths : (rows m from stride count a b c : ℕ) → Lengths rows m from stride count a b c → matrixFits rows m from stride count a b c ≡ true
-unfolding matrixFits columnsFit
-fit-lengths rows m from stride count a b c h =
-    let some = and-of _ _ (fit-numbers rows m count (h .numbers)) (eq-eqb _ _ (h .matrix)) in
-    and-of _ _ (and-of _ _ some (le-leb _ _ (h .columns))) (eq-eqb _ _ (h .out))
-
--- every column ends where the last one does, or before
-pub all-inside : (m from stride count : ℕ) (xs : List ℕ) → from + (m - 1) * stride + count ≤ length xs → Inside xs from stride m count
-all-inside m from stride count xs h j k = let top : j ≤ m - 1 = omega arith in omega (arith, mul-le-mul-right stride top)
-
--- ---- the end of the last column, by differences and a quotient
-
-pub none-fit : (m b from stride count : ℕ) → b < from + count → false ≡ columnsFit m b from stride count
+ends-columns : (cs : List ℕ) (b from stride count : ℕ) → ((i : ℕ) → i < length cs → from + getD cs i 0 * stride + count ≤ b)
+    → columnsFit cs b from stride count ≡ true
 unfolding columnsFit
-none-fit m b from stride count h = sym (lt-leb (from + (m - 1) * stride + count) b (omega arith))
+ends-columns [] b from stride count h = refl
+ends-columns (c ∷ cs) b from stride count h =
+    and-of _ _ (le-leb _ _ (h 0 (suc-le-suc zero-le))) (ends-columns cs b from stride count (λ i l. h (suc i) (suc-le-suc l)))
 
-pub one-fits : (m b from stride count : ℕ) → count ≤ b → from ≤ b - count → m < 2 → true ≡ columnsFit m b from stride count
-unfolding columnsFit
-one-fits m b from stride count h k few =
-    let last : m - 1 ≡ 0 = omega arith in
-    let none : (m - 1) * stride ≡ 0 = ap (λ (x : ℕ). x * stride) last ∙ zero-mul stride in
-    sym (le-leb (from + (m - 1) * stride + count) b (omega arith))
+pub fit-lengths : (rows : ℕ) (cs : List ℕ) (from stride count a b c : ℕ) → Lengths rows cs from stride count a b c
+    → matrixFits rows cs from stride count a b c ≡ true
+unfolding matrixFits
+fit-lengths rows cs from stride count a b c h =
+    let some = and-of _ _ (fit-numbers rows (length cs) count (h .numbers)) (eq-eqb _ _ (h .matrix)) in
+    and-of _ _ (and-of _ _ some (ends-columns cs b from stride count (h .columns))) (eq-eqb _ _ (h .out))
 
-pub some-fit : (m b from stride count : ℕ) → count ≤ b → from ≤ b - count → 2 ≤ m
-    → leb stride ((b - count - from) / (m - 1)) ≡ columnsFit m b from stride count
-unfolding columnsFit
-some-fit m b from stride count h k more = go (leb stride ((b - count - from) / (m - 1))) refl
+-- ---- the end of a column, by differences and a quotient
+
+pub none-fits : (c b from stride count : ℕ) → b < from + count → false ≡ leb (from + c * stride + count) b
+none-fits c b from stride count h = sym (lt-leb (from + c * stride + count) b (omega arith))
+
+pub first-fits : (c b from stride count : ℕ) → count ≤ b → from ≤ b - count → c < 1 → true ≡ leb (from + c * stride + count) b
+first-fits c b from stride count h k few =
+    let first : c ≡ 0 = omega arith in
+    let none : c * stride ≡ 0 = ap (λ (x : ℕ). x * stride) first ∙ zero-mul stride in
+    sym (le-leb (from + c * stride + count) b (omega arith))
+
+pub some-fits : (c b from stride count : ℕ) → count ≤ b → from ≤ b - count → 1 ≤ c
+    → leb stride ((b - count - from) / c) ≡ leb (from + c * stride + count) b
+some-fits c b from stride count h k some = same-test _ _ (λ e. le-leb end b (enough (leb-true _ _ e))) (λ e. le-leb _ _ (needed (leb-true end b e)))
   where
-    other : 0 < m - 1
-    other = omega arith
-
     end : ℕ
-    end = from + (m - 1) * stride + count
+    end = from + c * stride + count
 
-    enough : stride ≤ (b - count - from) / (m - 1) → end ≤ b
-    enough l = let most : stride * (m - 1) ≤ b - count - from = le-div-iff-mul-le other .0 l in omega (arith, mul-comm stride (m - 1))
+    enough : stride ≤ (b - count - from) / c → end ≤ b
+    enough l = let most : stride * c ≤ b - count - from = le-div-iff-mul-le some .0 l in omega (arith, mul-comm stride c)
 
-    needed : end ≤ b → stride ≤ (b - count - from) / (m - 1)
-    needed l = let most : stride * (m - 1) ≤ b - count - from = omega (arith, mul-comm stride (m - 1)) in le-div-iff-mul-le other .1 most
+    needed : end ≤ b → stride ≤ (b - count - from) / c
+    needed l = let most : stride * c ≤ b - count - from = omega (arith, mul-comm stride c) in le-div-iff-mul-le some .1 most
 
-    past : (end < b + 1) ⊎ (b + 1 ≤ end) → (b - count - from) / (m - 1) < stride → b < end
-    past (inl l) short = omega (arith, needed (omega arith))
-    past (inr l) short = omega arith
+-- ---- the greatest number
 
-    go : (v : Bool) → leb stride ((b - count - from) / (m - 1)) ≡ v → leb stride ((b - count - from) / (m - 1)) ≡ leb end b
-    go true e = e ∙ sym (le-leb end b (enough (leb-true stride ((b - count - from) / (m - 1)) e)))
-    go false e = e ∙ sym (lt-leb end b (past (below-or-from end (b + 1)) (leb-false stride ((b - count - from) / (m - 1)) e)))
+pub greatest-one : (cs : List ℕ) → Greatest cs 1 (getD cs 0 0)
+greatest-one cs = record { most = most; there = record { place = 0; below = suc-le-suc zero-le; is = refl } }
+  where
+    most : (i : ℕ) → i < 1 → getD cs i 0 ≤ getD cs 0 0
+    most zero h = omega arith
+    most (suc i) h = omega arith
+
+pub greatest-turn : (cs : List ℕ) (n c d : ℕ) → Greatest cs n c → c ≤ d → getD cs n 0 ≤ d → (d ≡ c) ⊎ (d ≡ getD cs n 0) → Greatest cs (n + 1) d
+greatest-turn cs n c d h old new one = record { most = most; there = ⊎-elim before here one }
+  where
+    most : (i : ℕ) → i < n + 1 → getD cs i 0 ≤ d
+    most i l = ⊎-elim below last (below-or-from i n)
+      where
+        below : i < n → getD cs i 0 ≤ d
+        below a = omega (arith, h .most i a)
+
+        last : n ≤ i → getD cs i 0 ≤ d
+        last a = let same : i ≡ n = omega arith in omega (arith, ap (λ (k : ℕ). getD cs k 0) same)
+
+    before : d ≡ c → Among cs (n + 1) d
+    before e = let was = h .there in record { place = was .place; below = omega (arith, was .below); is = was .is ∙ sym e }
+
+    here : d ≡ getD cs n 0 → Among cs (n + 1) d
+    here e = record { place = n; below = omega arith; is = sym e }
+
+pub greatest-done : (cs : List ℕ) (n m c : ℕ) → n ≡ m → Greatest cs n c → Greatest cs m c
+greatest-done cs n m c e h = subst (λ (k : ℕ). Greatest cs k c) e h
+
+-- all columns fit where the one with the greatest number does
+pub greatest-fits : (cs : List ℕ) (c b from stride count : ℕ) → Greatest cs (length cs) c
+    → leb (from + c * stride + count) b ≡ columnsFit cs b from stride count
+greatest-fits cs c b from stride count h = same-test _ _ all one
+  where
+    all : leb (from + c * stride + count) b ≡ true → columnsFit cs b from stride count ≡ true
+    all e = ends-columns cs b from stride count (λ i l. omega (arith, leb-true (from + c * stride + count) b e, mul-le-mul-right stride (h .most i l)))
+
+    one : columnsFit cs b from stride count ≡ true → leb (from + c * stride + count) b ≡ true
+    one e =
+        let at = h .there in
+        le-leb _ _ (subst (λ (x : ℕ). from + x * stride + count ≤ b) (at .is) (columns-end cs b from stride count e (at .place) (at .below)))
 
 -- ---- the rows as one list
 
-module _ (rows m : ℕ) (ms xs : List ℕ) (from stride count : ℕ) where
-  pub applied-length : length (applied rows m ms xs from stride count) ≡ rows * count
+module _ (rows : ℕ) (cs ms xs : List ℕ) (from stride count : ℕ) where
+  pub applied-length : length (applied rows cs ms xs from stride count) ≡ rows * count
   unfolding applied
   applied-length = tabulate-length (rows * count) _
 
   -- row s at place q, by definition and as a sum
   pub applied-place : (s q : ℕ) → s < rows → q < count
-      → getD (applied rows m ms xs from stride count) (s * count + q) 0 ≡ dot (rowOf m ms s) (across xs stride q from m)
+      → getD (applied rows cs ms xs from stride count) (s * count + q) 0 ≡ dot (rowOf (length cs) ms s) (bytesAt xs from stride q cs)
   unfolding applied
   applied-place s q hs hq =
       tabulate-at (rows * count) _ (s * count + q) (place-lt hs hq)
-      ∙ ap₂ (λ (a b : ℕ). dot (rowOf m ms a) (across xs stride b from m)) (place-column s hq) (place-byte s hq)
+      ∙ ap₂ (λ (a b : ℕ). dot (rowOf (length cs) ms a) (bytesAt xs from stride b cs)) (place-column s hq) (place-byte s hq)
 
   pub applied-at : (s q : ℕ) → s < rows → q < count
-      → getD (applied rows m ms xs from stride count) (s * count + q) 0 ≡ upTo ms m xs from stride m s q
-  unfolding rowOf
+      → getD (applied rows cs ms xs from stride count) (s * count + q) 0 ≡ upTo ms cs xs from stride (length cs) s q
+  unfolding rowOf bytesAt
   applied-at s q hs hq =
-      applied-place s q hs hq ∙ dot-sum m (λ i. getD ms (s * m + i) 0) (across xs stride q from m) (across-length xs stride q from m)
-      ∙ sum-same m _ _ (λ i h. ap (λ (x : ℕ). getD ms (s * m + i) 0 ⊗ x) (across-at xs stride q from m i h))
+      applied-place s q hs hq ∙ dot-sum (length cs) (λ i. getD ms (s * length cs + i) 0) (bytesAt xs from stride q cs) (length-map cs _)
+      ∙ sum-same (length cs) _ _ (λ i h. ap (λ (x : ℕ). getD ms (s * length cs + i) 0 ⊗ x) (map-at _ cs i h))
 
   module _ (ps : List ℕ) where
-    pub becomes-left : matrixFits rows m from stride count (length ms) (length xs) (length ps) ≡ false
-        → ps ≡ becomes rows m ms xs from stride count ps
+    pub becomes-left : matrixFits rows cs from stride count (length ms) (length xs) (length ps) ≡ false
+        → ps ≡ becomes rows cs ms xs from stride count ps
     unfolding becomes
-    becomes-left e = sym (ap (λ (b : Bool). cond b (applied rows m ms xs from stride count) ps) e)
+    becomes-left e = sym (ap (λ (b : Bool). cond b (applied rows cs ms xs from stride count) ps) e)
 
-    module _ (e : matrixFits rows m from stride count (length ms) (length xs) (length ps) ≡ true) where
-      pub becomes-fits : becomes rows m ms xs from stride count ps ≡ applied rows m ms xs from stride count
+    module _ (e : matrixFits rows cs from stride count (length ms) (length xs) (length ps) ≡ true) where
+      pub becomes-fits : becomes rows cs ms xs from stride count ps ≡ applied rows cs ms xs from stride count
       unfolding becomes
-      becomes-fits = ap (λ (b : Bool). cond b (applied rows m ms xs from stride count) ps) e
+      becomes-fits = ap (λ (b : Bool). cond b (applied rows cs ms xs from stride count) ps) e
 
-      pub becomes-applied : (qs : List ℕ) → length qs ≡ rows * count → 0 < m → Held ms m xs from stride count rows m qs
-          → qs ≡ becomes rows m ms xs from stride count ps
+      pub becomes-applied : (qs : List ℕ) → length qs ≡ rows * count → 0 < length cs → Held ms cs xs from stride count rows (length cs) qs
+          → qs ≡ becomes rows cs ms xs from stride count ps
       becomes-applied qs long some h =
           by-places rows count qs _ long applied-length (λ s q hs hq. h .at s q hs hq some ∙ sym (applied-at s q hs hq)) ∙ sym becomes-fits

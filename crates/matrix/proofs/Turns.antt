@@ -18,22 +18,24 @@ use Rattle.matrix.proofs.Groups.{index-small, group-most}
 
 -- ---- tables
 
-pub groups-turn : (xs : List ℕ) (at l w n g k : ℕ) (t u : List ℕ) → w ≤ 64 → k ≡ inGroup n g → GroupsIn xs at l w n g t
-    → Summed xs (at + g * 4 * l) l w g k t u → GroupsIn xs at l w n (g + 1) u
-groups-turn xs at l w n g k t u few e h s i less = go (below-or-from i g)
-  where
-    go : (i < g) ⊎ (g ≤ i) → GroupIn xs (at + i * 4 * l) l w i (inGroup n i) u
-    go (inl a) = λ f hf q b.
-        s .rest ((i * 16 + index (inGroup n i) f) * 64 + q) (inl (omega (arith, index-small (inGroup n i) f (group-most n i .0) hf)))
-        ∙ h i a f hf q b
-    go (inr a) =
-        let same : g ≡ i = omega arith in
-        subst (λ (x : ℕ). GroupIn xs (at + x * 4 * l) l w x (inGroup n x) u) same (subst (λ (x : ℕ). GroupIn xs (at + g * 4 * l) l w g x u) e (s .sums))
+module _ (xs cs : List ℕ) (from stride w : ℕ) where
+  pub groups-turn : (i n g k : ℕ) (t u : List ℕ) → w ≤ 64 → k ≡ inGroup n g → GroupsIn xs cs from stride w i n g t
+      → Summed xs cs from stride w (i + g * 4) g k t u → GroupsIn xs cs from stride w i n (g + 1) u
+  groups-turn i n g k t u few e h s d less = go (below-or-from d g)
+    where
+      go : (d < g) ⊎ (g ≤ d) → GroupIn xs cs from stride w (i + d * 4) d (inGroup n d) u
+      go (inl a) = λ f hf q b.
+          s .rest ((d * 16 + index (inGroup n d) f) * 64 + q) (inl (omega (arith, index-small (inGroup n d) f (group-most n d .0) hf)))
+          ∙ h d a f hf q b
+      go (inr a) =
+          let same : g ≡ d = omega arith in
+          subst (λ (x : ℕ). GroupIn xs cs from stride w (i + x * 4) x (inGroup n x) u) same
+          (subst (λ (x : ℕ). GroupIn xs cs from stride w (i + g * 4) g x u) e (s .sums))
 
--- the sum of no column
-pub zero-turn : (xs : List ℕ) (at l w g k : ℕ) (t u : List ℕ) → (0 < g → ZeroFirst t) → Summed xs at l w g k t u → ZeroFirst u
-zero-turn xs at l w zero k t u h s q less = let place : q ≡ 0 * 1024 + q = omega arith in ap (λ (x : ℕ). getD u x 0) place ∙ s .zero q less
-zero-turn xs at l w (suc g) k t u h s q less = s .rest q (inl (omega arith)) ∙ h (omega arith) q less
+  -- the sum of no column
+  pub zero-turn : (i g k : ℕ) (t u : List ℕ) → (0 < g → ZeroFirst t) → Summed xs cs from stride w i g k t u → ZeroFirst u
+  zero-turn i zero k t u h s q less = let place : q ≡ 0 * 1024 + q = omega arith in ap (λ (x : ℕ). getD u x 0) place ∙ s .zero q less
+  zero-turn i (suc g) k t u h s q less = s .rest q (inl (omega arith)) ∙ h (omega arith) q less
 
 -- ---- one bit
 
@@ -45,12 +47,12 @@ cancel-done a b c = simp sums
 
 -- y holds what y₀ did, which has the sum of group 0, with the other sums of the first g groups
 pub record Gathered (t es : List ℕ) (row g : ℕ) (y₀ y : List ℕ) : Type 0 where
-  pub at : (q : ℕ) → q < 64 → getD y q 0 ≡ getD y₀ q 0 ⊕ (getD t ((0 * 16 + getD es (row + 0) 0) * 64 + q) 0 ⊕ picked t es row g q)
+  pub at : (q : ℕ) → q < 64 → getD y q 0 ≡ getD y₀ q 0 ⊕ (getD t ((0 * 16 + getD es (row + 0 * 8) 0) * 64 + q) 0 ⊕ picked t es row g q)
 
 module _ (t es : List ℕ) (row : ℕ) where
   -- place q of the sum of group g
   abbrev term : ℕ → ℕ → ℕ
-  term q g = getD t ((g * 16 + getD es (row + g) 0) * 64 + q) 0
+  term q g = getD t ((g * 16 + getD es (row + g * 8) 0) * 64 + q) 0
 
   pub bit-start : (y : List ℕ) → Gathered t es row 1 y y
   bit-start y = record { at = at }
@@ -60,7 +62,7 @@ module _ (t es : List ℕ) (row : ℕ) where
           let one : picked t es row 1 q ≡ 0 ⊕ term q 0 = sum-more 0 (term q) ∙ ap (λ (x : ℕ). x ⊕ term q 0) (sum-none (term q)) in
           cancel (getD y q 0) (term q 0) ∙ ap (λ (x : ℕ). getD y q 0 ⊕ (term q 0 ⊕ x)) (sym one)
 
-  pub bit-turn : (g o : ℕ) (y₀ y z : List ℕ) → length y ≡ 64 → o ≡ (g * 16 + getD es (row + g) 0) * 64 → o + 64 ≤ length t
+  pub bit-turn : (g o : ℕ) (y₀ y z : List ℕ) → length y ≡ 64 → o ≡ (g * 16 + getD es (row + g * 8) 0) * 64 → o + 64 ≤ length t
       → Gathered t es row g y₀ y → z ≡ onto (λ (x y : ℕ). x ⊕ y) y (take (o + 64 - o) (drop o t)) → Gathered t es row (g + 1) y₀ z
   bit-turn g o y₀ y z long e fits h is = record { at = at }
     where
@@ -81,10 +83,10 @@ module _ (t es : List ℕ) (row : ℕ) where
       ∙ cancel-done (2 ⊗ getD y₀ q 0) (term q 0) (picked t es row g q)
       ∙ ap (λ (x : ℕ). 2 ⊗ getD y₀ q 0 ⊕ picked t es row x q) same
     where
-      place : o + q ≡ (0 * 16 + getD es (row + 0) 0) * 64 + q
+      place : o + q ≡ (0 * 16 + getD es (row + 0 * 8) 0) * 64 + q
       place =
-          let r : row + 0 ≡ row = omega arith in
-          let f : getD es (row + 0) 0 ≡ getD es row 0 = ap (λ (x : ℕ). getD es x 0) r in
+          let r : row + 0 * 8 ≡ row = omega arith in
+          let f : getD es (row + 0 * 8) 0 ≡ getD es row 0 = ap (λ (x : ℕ). getD es x 0) r in
           omega arith
 
       first : getD y₁ q 0 ≡ 2 ⊗ getD y₀ q 0 ⊕ term q 0

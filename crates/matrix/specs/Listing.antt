@@ -4,17 +4,17 @@ use mathlib.Core.Path.{_≡_}
 use mathlib.Core.List.{List}
 use lib.ListN.{length, getD}
 use Rattle.field.specs.Field.{times}
-use Rattle.matrix.specs.Sums.{sumTo, halved}
+use Rattle.matrix.specs.Sums.{sumTo, halved, Among}
 
--- n numbers stand in ls from `at` on: those below m that have the bit, each once
-pub record Listed (bit : ℕ → ℕ) (m at n : ℕ) (ls : List ℕ) : Type 0 where
+-- n numbers stand in ls from `at` on: of the first m of cs those whose place has the bit, in turn
+pub record Listed (bit : ℕ → ℕ) (cs : List ℕ) (m at n : ℕ) (ls : List ℕ) : Type 0 where
   pub few : n ≤ m
-  pub below : (j : ℕ) → j < n → getD ls (at + j) 0 < m
-  pub sum : (x : ℕ → ℕ) → sumTo n (λ j. x (getD ls (at + j) 0)) ≡ sumTo m (λ i. times (bit i) (x i))
+  pub among : (j : ℕ) → j < n → Among cs m (getD ls (at + j) 0)
+  pub sum : (x : ℕ → ℕ) → sumTo n (λ j. x (getD ls (at + j) 0)) ≡ sumTo m (λ i. times (bit i) (x (getD cs i 0)))
 
--- the lists of the first bits of constants, 256 apart, and how long they are
-pub record Lists (cs : List ℕ) (bits : ℕ) (ns ls : List ℕ) : Type 0 where
-  pub at : (b : ℕ) → b < bits → Listed (λ i. halved b (getD cs i 0) % 2) (length cs) (b * 256) (getD ns b 0) ls
+-- the lists of the columns cs by the first bits of their constants, 256 apart, and how long they are
+pub record Lists (ws cs : List ℕ) (bits : ℕ) (ns ls : List ℕ) : Type 0 where
+  pub at : (b : ℕ) → b < bits → Listed (λ i. halved b (getD ws i 0) % 2) cs (length cs) (b * 256) (getD ns b 0) ls
 
 -- w bytes of each of the n columns that are listed from `at` on lie in xs
 abbrev pub ListedInside : List ℕ → ℕ → ℕ → List ℕ → ℕ → ℕ → ℕ → Type 0

@@ -23,6 +23,11 @@ unfoldable pub index : ℕ → (ℕ → ℕ) → ℕ
 index zero f = 0
 index (suc n) f = index n f + f n * 2 ^ n
 
+-- the number whose n bytes are these, from number b on, the first lowest
+unfoldable pub sideBySide : ℕ → ℕ → (ℕ → ℕ) → ℕ
+sideBySide zero b f = 0
+sideBySide (suc n) b f = f b + sideBySide n (suc b) f * 256
+
 -- Horner's rule over the n terms from number b on, the last first
 unfoldable pub fall : ℕ → ℕ → (ℕ → ℕ) → ℕ
 fall zero b f = 0
@@ -44,62 +49,62 @@ pub record Widened (g have n : ℕ) (d t u : List ℕ) : Type 0 where
   pub new : (c q : ℕ) → c < n → q < 64 → getD u ((g * 16 + have + c) * 64 + q) 0 ≡ getD t ((g * 16 + c) * 64 + q) 0 ⊕ getD d q 0
   pub rest : (i : ℕ) → (i < (g * 16 + have) * 64) ⊎ ((g * 16 + have + n) * 64 ≤ i) → getD u i 0 ≡ getD t i 0
 
--- w bytes of each of n columns, l apart, the first from `at` on, lie in xs
-abbrev pub Inside : List ℕ → ℕ → ℕ → ℕ → ℕ → Type 0
-Inside xs at l n w = (j : ℕ) → j < n → at + j * l + w ≤ length xs
+-- w bytes of each of the columns with these numbers lie in xs: column c starts at from + c * stride
+abbrev pub Inside : List ℕ → List ℕ → ℕ → ℕ → ℕ → Type 0
+Inside xs cs from stride w = (i : ℕ) → i < length cs → from + getD cs i 0 * stride + w ≤ length xs
 
--- u holds, as group g, the sums of n columns, l apart, the first from `at` on, at w places, each at the number of its bits
-abbrev pub GroupIn : List ℕ → ℕ → ℕ → ℕ → ℕ → ℕ → List ℕ → Type 0
-GroupIn xs at l w g n u =
+-- u holds, as group g, the sums of n of these columns, from number i of them on, at w places, each at the number of its bits
+abbrev pub GroupIn : List ℕ → List ℕ → ℕ → ℕ → ℕ → ℕ → ℕ → ℕ → List ℕ → Type 0
+GroupIn xs cs from stride w i g n u =
     (f : ℕ → ℕ) → ((j : ℕ) → f j < 2) → (q : ℕ) → q < w
-    → getD u ((g * 16 + index n f) * 64 + q) 0 ≡ sumTo n (λ j. times (f j) (getD xs (at + j * l + q) 0))
+    → getD u ((g * 16 + index n f) * 64 + q) 0 ≡ sumTo n (λ j. times (f j) (getD xs (from + getD cs (i + j) 0 * stride + q) 0))
 
-pub record Summed (xs : List ℕ) (at l w g n : ℕ) (t u : List ℕ) : Type 0 where
+pub record Summed (xs cs : List ℕ) (from stride w i g n : ℕ) (t u : List ℕ) : Type 0 where
   pub long : length u ≡ length t
-  pub sums : GroupIn xs at l w g n u
+  pub sums : GroupIn xs cs from stride w i g n u
   pub zero : (q : ℕ) → q < 64 → getD u (g * 1024 + q) 0 ≡ 0
   pub rest : (i : ℕ) → (i < g * 1024) ⊎ (g * 1024 + 1024 ≤ i) → getD u i 0 ≡ getD t i 0
 
--- u holds the first groups of n columns, l apart, the first from `at` on
-abbrev pub GroupsIn : List ℕ → ℕ → ℕ → ℕ → ℕ → ℕ → List ℕ → Type 0
-GroupsIn xs at l w n groups u = (g : ℕ) → g < groups → GroupIn xs (at + g * 4 * l) l w g (inGroup n g) u
+-- u holds the first groups of n of these columns, from number i of them on
+abbrev pub GroupsIn : List ℕ → List ℕ → ℕ → ℕ → ℕ → ℕ → ℕ → ℕ → List ℕ → Type 0
+GroupsIn xs cs from stride w i n groups u = (g : ℕ) → g < groups → GroupIn xs cs from stride w (i + g * 4) g (inGroup n g) u
 
 -- and the sum of no column stands first
 abbrev pub ZeroFirst : List ℕ → Type 0
 ZeroFirst u = (q : ℕ) → q < 64 → getD u q 0 ≡ 0
 
-pub record Tabled (xs : List ℕ) (at l w n : ℕ) (u : List ℕ) : Type 0 where
-  pub groups : GroupsIn xs at l w n ((n + 3) / 4) u
+pub record Tabled (xs cs : List ℕ) (from stride w i n : ℕ) (u : List ℕ) : Type 0 where
+  pub groups : GroupsIn xs cs from stride w i n ((n + 3) / 4) u
   pub zero : 0 < n → ZeroFirst u
 
--- place q of the sum number e of each group, e by a list of numbers from `row` on, added
+-- place q of the sum number e of each group, e by a list of numbers, eight apart, from `row` on, added
 abbrev pub picked : List ℕ → List ℕ → ℕ → ℕ → ℕ → ℕ
-picked t es row n q = sumTo n (λ g. getD t ((g * 16 + getD es (row + g) 0) * 64 + q) 0)
+picked t es row n q = sumTo n (λ g. getD t ((g * 16 + getD es (row + g * 8) 0) * 64 + q) 0)
 
--- the row whose numbers stand from `row` on, eight to a bit
+-- the row whose numbers stand from `row` on, eight to a group
 unfoldable pub rowValue : List ℕ → List ℕ → ℕ → ℕ → ℕ → ℕ
-rowValue t es row n q = fall 8 0 (λ b. picked t es (row + b * 8) n q)
+rowValue t es row n q = fall 8 0 (λ b. picked t es (row + b) n q)
 
 -- each number is that of a sum: of one bit, of a row, of the first rows
 abbrev pub Numbers : List ℕ → ℕ → ℕ → Type 0
-Numbers es row n = (g : ℕ) → g < n → getD es (row + g) 0 < 16
+Numbers es row n = (g : ℕ) → g < n → getD es (row + g * 8) 0 < 16
 
 abbrev pub RowNumbers : List ℕ → ℕ → ℕ → Type 0
-RowNumbers es row n = (b : ℕ) → b < 8 → Numbers es (row + b * 8) n
+RowNumbers es row n = (b : ℕ) → b < 8 → Numbers es (row + b) n
 
 abbrev pub AllNumbers : List ℕ → ℕ → ℕ → Type 0
 AllNumbers es rows n = (s : ℕ) → s < rows → RowNumbers es (s * 64) n
 
--- es holds, from `at` on, eight apart, the numbers of the eight bits of n weights, and is ds elsewhere
+-- es holds, from `at` on, the numbers of the first k bits of n weights, and is ds elsewhere
 pub record Numbered (f : ℕ → ℕ) (at n k : ℕ) (ds es : List ℕ) : Type 0 where
   pub long : length es ≡ length ds
-  pub on : (b : ℕ) → b < k → getD es (at + b * 8) 0 ≡ index n (λ j. halved b (f j) % 2)
-  pub off : (i : ℕ) → ((b : ℕ) → b < k → i ≡ at + b * 8 → ⊥) → getD es i 0 ≡ getD ds i 0
+  pub on : (b : ℕ) → b < k → getD es (at + b) 0 ≡ index n (λ j. halved b (f j) % 2)
+  pub off : (i : ℕ) → (i < at) ⊎ (at + k ≤ i) → getD es i 0 ≡ getD ds i 0
 
 -- a row of numbers, from `row` on: those of the first groups of n weights
 abbrev pub RowNumbered : (ℕ → ℕ) → ℕ → ℕ → ℕ → List ℕ → Type 0
 RowNumbered f row n groups es =
-    (g b : ℕ) → g < groups → b < 8 → getD es (row + b * 8 + g) 0 ≡ index (inGroup n g) (λ j. halved b (f (g * 4 + j)) % 2)
+    (g b : ℕ) → g < groups → b < 8 → getD es (row + b + g * 8) 0 ≡ index (inGroup n g) (λ j. halved b (f (g * 4 + j)) % 2)
 
 -- such a row, where what stands before it stays
 pub record RowMade (f : ℕ → ℕ) (row n groups : ℕ) (ds es : List ℕ) : Type 0 where
@@ -118,10 +123,21 @@ pub record Rowed (t es : List ℕ) (groups : ℕ) (fresh : Bool) (count at w row
       → getD qs (s * count + at + q) 0 ≡ cond fresh 0 (getD ps (s * count + at + q) 0) ⊕ rowValue t es (s * 64) groups q
   pub off : (s p : ℕ) → p < count → (rows ≤ s) ⊎ ((p < at) ⊎ (at + w ≤ p)) → getD qs (s * count + p) 0 ≡ getD ps (s * count + p) 0
 
--- of row s the products of the first n columns at place p, added
-abbrev pub upTo : List ℕ → ℕ → List ℕ → ℕ → ℕ → ℕ → ℕ → ℕ → ℕ
-upTo ms m xs from stride n s p = sumTo n (λ i. getD ms (s * m + i) 0 ⊗ getD xs (from + i * stride + p) 0)
+-- of row s the products of the first n of these columns at place p, added
+abbrev pub upTo : List ℕ → List ℕ → List ℕ → ℕ → ℕ → ℕ → ℕ → ℕ → ℕ
+upTo ms cs xs from stride n s p = sumTo n (λ i. getD ms (s * length cs + i) 0 ⊗ getD xs (from + getD cs i 0 * stride + p) 0)
 
--- ps holds i columns of each row at every place, where i is not 0
-pub record Held (ms : List ℕ) (m : ℕ) (xs : List ℕ) (from stride count rows i : ℕ) (ps : List ℕ) : Type 0 where
-  pub at : (s p : ℕ) → s < rows → p < count → 0 < i → getD ps (s * count + p) 0 ≡ upTo ms m xs from stride i s p
+-- ps holds i of these columns of each row at every place, where i is not 0
+pub record Held (ms cs xs : List ℕ) (from stride count rows i : ℕ) (ps : List ℕ) : Type 0 where
+  pub at : (s p : ℕ) → s < rows → p < count → 0 < i → getD ps (s * count + p) 0 ≡ upTo ms cs xs from stride i s p
+
+-- c is one of the first n of these numbers
+pub record Among (cs : List ℕ) (n c : ℕ) : Type 0 where
+  pub place : ℕ
+  pub below : place < n
+  pub is : getD cs place 0 ≡ c
+
+-- c is the greatest of the first n of these numbers
+pub record Greatest (cs : List ℕ) (n c : ℕ) : Type 0 where
+  pub most : (i : ℕ) → i < n → getD cs i 0 ≤ c
+  pub there : Among cs n c

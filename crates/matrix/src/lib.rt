@@ -1,7 +1,8 @@
 // A matrix of bytes times columns, by sums of groups. For a block of 64 places the 16 sums of each group of four columns are formed
 // once. A row is then Horner's rule over the eight bits of its constants: double, and add of each group the sum whose number is that
 // bit of the group's four constants. No product is ever formed. Columns are taken in slabs of 32, whose sums fit a local table.
-// Throughout, t is that table, and es holds the numbers of the sums, by row, bit and group. One row alone is formed in `one`.
+// Throughout, t is that table, es holds the numbers of the sums, by row, group and bit, and cs holds the numbers of the columns used:
+// column c starts at from + c * stride. One row alone is formed in `one`.
 mod one;
 
 use lanes::add;
@@ -11,12 +12,14 @@ use one::one_row;
 use steps::double_add;
 ghost use mathlib.Core.Path.{_≡_};
 ghost use mathlib.Core.Bool.{true, cond};
+ghost use mathlib.Core.Logic.{_⊎_};
 ghost use Prim.Native.Nat.{ℕ, _+_, _*_, _/_, _%_, _<_, _≤_};
+ghost use lib.Dec.{leb};
 ghost use lib.ListN.{length, getD};
 ghost use Rattle.field.specs.Field.{_⊕_, _⊗_};
 ghost use Rattle.matrix.specs.Matrix.{numbersFit, columnsFit, matrixFits, becomes};
-ghost use Rattle.matrix.specs.Sums.{inGroup, Inside, Part, Widened, Summed, Tabled, ZeroFirst, picked, rowValue};
-ghost use Rattle.matrix.specs.Sums.{Numbers, RowNumbers, AllNumbers, Numbered, RowMade, AllNumbered, Rowed, Held};
+ghost use Rattle.matrix.specs.Sums.{halved, sideBySide, inGroup, Inside, Part, Widened, Summed, Tabled, ZeroFirst, picked, rowValue};
+ghost use Rattle.matrix.specs.Sums.{Numbers, RowNumbers, AllNumbers, Numbered, RowMade, AllNumbered, Rowed, Held, Greatest};
 
 // ---- blocks of 64 bytes, by value, so that they stay in registers
 
@@ -84,32 +87,53 @@ fn widen(t: &mut [u8], g: usize, have: usize, d: &[u8; 64])
     }
 }
 
-// All sums of n columns, l apart, the first from `at` on, at w places.
-fn sums(t: &mut [u8], g: usize, columns: &[u8], at: usize, l: usize, n: usize, w: usize)
-    requires { ⌜ (length (now t) ≡ 8192) × ((g < 8) × ((n ≤ 4) × ((w ≤ 64) × Inside (now columns) at l n w))) ⌝ }
-    ensures { λ _. ⌜ Summed (now (columns .entry)) at l w g n (now (t .entry)) (now (t .exit)) ⌝ }
+// All sums of n columns, from number i of the list on, at w places.
+fn sums(
+    t: &mut [u8],
+    g: usize,
+    cs: &[u8],
+    i: usize,
+    n: usize,
+    columns: &[u8],
+    from: usize,
+    stride: usize,
+    w: usize,
+)
+    requires { ⌜ (length (now t) ≡ 8192) × ((g < 8) × ((n ≤ 4) × ((i + n ≤ length (now cs))
+        × ((w ≤ 64) × Inside (now columns) (now cs) from stride w)))) ⌝ }
+    ensures { λ _. ⌜ Summed (now (columns .entry)) (now (cs .entry)) from stride w i g n (now (t .entry)) (now (t .exit)) ⌝ }
 {
     let zero = [0u8; 64];
     put(t, g * 1024, 64, &zero);
     let mut have = 1;
     let mut j = 0;
     while j < n {
-        let d = block(columns, at + j * l, w);
+        let d = block(columns, from + wide(cs[i + j]) * stride, w);
         widen(t, g, have, &d);
         have = have * 2;
         j += 1;
     }
 }
 
-// The sums of each group of four of n columns.
-fn tables(t: &mut [u8], columns: &[u8], at: usize, l: usize, n: usize, w: usize)
-    requires { ⌜ (length (now t) ≡ 8192) × ((n ≤ 32) × ((w ≤ 64) × Inside (now columns) at l n w)) ⌝ }
-    ensures { λ _. ⌜ Tabled (now (columns .entry)) at l w n (now (t .exit)) ⌝ }
+// The sums of each group of four of n columns, from number i of the list on.
+fn tables(
+    t: &mut [u8],
+    cs: &[u8],
+    i: usize,
+    n: usize,
+    columns: &[u8],
+    from: usize,
+    stride: usize,
+    w: usize,
+)
+    requires { ⌜ (length (now t) ≡ 8192) × ((n ≤ 32) × ((i + n ≤ length (now cs))
+        × ((w ≤ 64) × Inside (now columns) (now cs) from stride w))) ⌝ }
+    ensures { λ _. ⌜ Tabled (now (columns .entry)) (now (cs .entry)) from stride w i n (now (t .exit)) ⌝ }
 {
     let mut g = 0;
     while g < (n + 3) / 4 {
         let k = in_group(n, g);
-        sums(t, g, columns, at + g * 4 * l, l, k, w);
+        sums(t, g, cs, i + g * 4, k, columns, from, stride, w);
         g += 1;
     }
 }
@@ -124,13 +148,6 @@ fn weight(matrix: &[u8], at: usize, j: usize, n: usize) -> u8
     if j < n { matrix[at + j] } else { 0 }
 }
 
-// Four bytes side by side.
-fn packed(x: u8, y: u8, z: u8, v: u8) -> u64
-    ensures { λ r. ⌜ (r % 256 ≡ x) × ((r / 256 % 256 ≡ y) × ((r / 65536 % 256 ≡ z) × (r / 16777216 % 256 ≡ v))) ⌝ }
-{
-    wide_64(x) + wide_64(y) * 256 + wide_64(z) * 65536 + wide_64(v) * 16777216
-}
-
 // A byte as a wider number.
 fn wide_64(x: u8) -> u64
     ensures { λ v. ⌜ (v ≡ x) × (v < 256) ⌝ }
@@ -138,16 +155,25 @@ fn wide_64(x: u8) -> u64
     x as u64
 }
 
-// The number whose bits are the lowest of four bytes side by side: the factor brings them together, above what it leaves elsewhere.
-fn lowest(p: u64) -> u8
-    ensures { λ r. ⌜ r ≡ p % 2 + p / 256 % 2 * 2 + p / 65536 % 2 * 4 + p / 16777216 % 2 * 8 ⌝ }
+// Byte b of what comes back is bit b of w: the factor brings w to each byte, where the mask leaves bit b, and the sum carries it to bit 7.
+fn spread(w: u8) -> u64
+    ensures { λ v. ⌜ (v ≡ sideBySide 8 0 (λ b. halved b w % 2)) × (v ≤ 0x0101_0101_0101_0101) ⌝ }
 {
-    ((p & 16843009) * 16909320 / 16777216 % 16) as u8
+    let y = (wide_64(w) * 0x0101_0101_0101_0101) & 0x8040_2010_0804_0201;
+    ((y + 0x0040_6070_787c_7e7f) / 128) & 0x0101_0101_0101_0101
 }
 
-// The numbers of the eight bits of the n weights from `from` on, n at most four, to every eighth place from `at` on.
+// Byte b of what comes back is the number whose bits are the bits b of four bytes.
+fn packed(x: u8, y: u8, z: u8, v: u8) -> u64
+    ensures { λ r. ⌜ r
+        ≡ sideBySide 8 0 (λ b. halved b x % 2 + halved b y % 2 * 2 + halved b z % 2 * 4 + halved b v % 2 * 8) ⌝ }
+{
+    spread(x) + spread(y) * 2 + spread(z) * 4 + spread(v) * 8
+}
+
+// The numbers of the eight bits of the n weights from `from` on, n at most four, to the eight places from `at` on.
 fn numbers(es: &mut [u8], at: usize, matrix: &[u8], from: usize, n: usize)
-    requires { ⌜ (at + 56 < length (now es)) × ((n ≤ 4) × (from + n ≤ length (now matrix))) ⌝ }
+    requires { ⌜ (at + 8 ≤ length (now es)) × ((n ≤ 4) × (from + n ≤ length (now matrix))) ⌝ }
     ensures { λ _. ⌜ Numbered (λ j. getD (now (matrix .entry)) (from + j) 0) at n 8 (now (es .entry)) (now (es .exit)) ⌝ }
 {
     let x = weight(matrix, from, 0, n);
@@ -157,9 +183,9 @@ fn numbers(es: &mut [u8], at: usize, matrix: &[u8], from: usize, n: usize)
     let mut p = packed(x, y, z, v);
     let mut b = 0;
     while b < 8 {
-        let o = at + b * 8;
-        es[o] = lowest(p);
-        p = p / 2;
+        let o = at + b;
+        es[o] = (p % 256) as u8;
+        p = p / 256;
         b += 1;
     }
 }
@@ -172,7 +198,7 @@ fn row_numbers(es: &mut [u8], row: usize, matrix: &[u8], from: usize, n: usize)
     let mut g = 0;
     while g < (n + 3) / 4 {
         let k = in_group(n, g);
-        numbers(es, row + g, matrix, from + g * 4, k);
+        numbers(es, row + g * 8, matrix, from + g * 4, k);
         g += 1;
     }
 }
@@ -191,9 +217,9 @@ fn all_numbers(es: &mut [u8], rows: usize, matrix: &[u8], m: usize, i: usize, n:
 
 // ---- a row of a block
 
-// Twice y, and of each of n groups the sum whose number stands from `row` on.
+// Twice y, and of each of n groups the sum whose number stands from `row` on, eight apart.
 fn bit_step(y: &mut [u8; 64], t: &[u8], es: &[u8], row: usize, n: usize)
-    requires { ⌜ (length (now t) ≡ 8192) × ((row + n ≤ length (now es)) × ((1 ≤ n) × ((n ≤ 8) × Numbers (now es) row n))) ⌝ }
+    requires { ⌜ (length (now t) ≡ 8192) × ((row + 56 < length (now es)) × ((1 ≤ n) × ((n ≤ 8) × Numbers (now es) row n))) ⌝ }
     ensures { λ _. ⌜ ((q : ℕ) → q < 64
         → getD (now (y .exit)) q 0 ≡ 2 ⊗ getD (now (y .entry)) q 0 ⊕ picked (now (t .entry)) (now (es .entry)) row n q) ⌝ }
 {
@@ -202,7 +228,7 @@ fn bit_step(y: &mut [u8; 64], t: &[u8], es: &[u8], row: usize, n: usize)
     double_add(y, &t[first..last]);
     let mut g = 1;
     while g < n {
-        let o = (g * 16 + wide(es[row + g])) * 64;
+        let o = (g * 16 + wide(es[row + g * 8])) * 64;
         let e = o + 64;
         add(y, &t[o..e]);
         g += 1;
@@ -227,7 +253,7 @@ fn straight(t: &[u8], es: &[u8], row: usize, n: usize) -> [u8; 64]
     let mut b = 8;
     while 0 < b {
         b = b - 1;
-        bit_step(&mut y, t, es, row + b * 8, n);
+        bit_step(&mut y, t, es, row + b, n);
     }
     y
 }
@@ -280,10 +306,10 @@ fn rows_block(
 
 // ---- slabs of columns
 
-// The n columns from number i on, at every place of every row.
+// The n columns from number i of the list on, at every place of every row.
 fn slab(
     rows: usize,
-    m: usize,
+    cs: &[u8],
     i: usize,
     n: usize,
     matrix: &[u8],
@@ -293,18 +319,19 @@ fn slab(
     count: usize,
     out: &mut [u8],
 )
-    requires { ⌜ (rows ≤ 16) × ((1 ≤ n) × ((n ≤ 32) × ((i + n ≤ m) × ((length (now matrix) ≡ rows * m)
-        × (Inside (now columns) from stride m count × ((length (now out) ≡ rows * count)
-        × Held (now matrix) m (now columns) from stride count rows i (now out))))))) ⌝ }
-    ensures { λ _. ⌜ Held (now (matrix .entry)) m (now (columns .entry)) from stride count rows (i + n) (now (out .exit)) ⌝ }
+    requires { ⌜ (rows ≤ 16) × ((1 ≤ n) × ((n ≤ 32) × ((i + n ≤ length (now cs)) × ((length (now matrix) ≡ rows * length (now cs))
+        × (Inside (now columns) (now cs) from stride count × ((length (now out) ≡ rows * count)
+        × Held (now matrix) (now cs) (now columns) from stride count rows i (now out))))))) ⌝ }
+    ensures { λ _. ⌜ Held (now (matrix .entry)) (now (cs .entry)) (now (columns .entry)) from stride count rows (i + n)
+        (now (out .exit)) ⌝ }
 {
     let mut es = [0u8; 1024];
-    all_numbers(&mut es, rows, matrix, m, i, n);
+    all_numbers(&mut es, rows, matrix, cs.len(), i, n);
     let mut t = [0u8; 8192];
     let mut at = 0;
     while at < count {
         let w = shorter(64, count - at);
-        tables(&mut t, columns, from + i * stride + at, stride, n, w);
+        tables(&mut t, cs, i, n, columns, from + at, stride, w);
         rows_block(&t, &es, rows, (n + 3) / 4, i == 0, count, at, w, out);
         at += w;
     }
@@ -313,7 +340,7 @@ fn slab(
 // All columns, slab by slab.
 fn fill(
     rows: usize,
-    m: usize,
+    cs: &[u8],
     matrix: &[u8],
     columns: &[u8],
     from: usize,
@@ -321,14 +348,15 @@ fn fill(
     count: usize,
     out: &mut [u8],
 )
-    requires { ⌜ (rows ≤ 16) × ((length (now matrix) ≡ rows * m)
-        × (Inside (now columns) from stride m count × (length (now out) ≡ rows * count))) ⌝ }
-    ensures { λ _. ⌜ Held (now (matrix .entry)) m (now (columns .entry)) from stride count rows m (now (out .exit)) ⌝ }
+    requires { ⌜ (rows ≤ 16) × ((length (now matrix) ≡ rows * length (now cs))
+        × (Inside (now columns) (now cs) from stride count × (length (now out) ≡ rows * count))) ⌝ }
+    ensures { λ _. ⌜ Held (now (matrix .entry)) (now (cs .entry)) (now (columns .entry)) from stride count rows (length (now (cs .entry)))
+        (now (out .exit)) ⌝ }
 {
     let mut i = 0;
-    while i < m {
-        let n = shorter(32, m - i);
-        slab(rows, m, i, n, matrix, columns, from, stride, count, out);
+    while i < cs.len() {
+        let n = shorter(32, cs.len() - i);
+        slab(rows, cs, i, n, matrix, columns, from, stride, count, out);
         i += n;
     }
 }
@@ -357,9 +385,30 @@ fn numbers_fit(rows: usize, m: usize, count: usize) -> bool
     count <= 4096
 }
 
-// Whether the last column ends within b bytes: by differences and a quotient, since from and stride are any numbers.
-fn columns_fit(m: usize, b: usize, from: usize, stride: usize, count: usize) -> bool
-    ensures { λ v. ⌜ v ≡ columnsFit m b from stride count ⌝ }
+// The greater of two numbers.
+fn larger(x: u8, y: u8) -> u8
+    ensures { λ v. ⌜ (x ≤ v) × ((y ≤ v) × ((v ≡ x) ⊎ (v ≡ y))) ⌝ }
+{
+    if x < y { y } else { x }
+}
+
+// The greatest of the numbers.
+fn greatest(cs: &[u8]) -> u8
+    requires { ⌜ 1 ≤ length (now cs) ⌝ }
+    ensures { λ v. ⌜ Greatest (now (cs .entry)) (length (now (cs .entry))) v ⌝ }
+{
+    let mut c = cs[0];
+    let mut i = 1;
+    while i < cs.len() {
+        c = larger(c, cs[i]);
+        i += 1;
+    }
+    c
+}
+
+// Whether column c ends within b bytes: by differences and a quotient, since from and stride are any numbers.
+fn ends_within(c: usize, b: usize, from: usize, stride: usize, count: usize) -> bool
+    ensures { λ v. ⌜ v ≡ leb (from + c * stride + count) b ⌝ }
 {
     if b < count {
         return false;
@@ -367,16 +416,24 @@ fn columns_fit(m: usize, b: usize, from: usize, stride: usize, count: usize) -> 
     if b - count < from {
         return false;
     }
-    if m < 2 {
+    if c < 1 {
         return true;
     }
-    stride <= (b - count - from) / (m - 1)
+    stride <= (b - count - from) / c
+}
+
+// Whether each column ends within b bytes: the one with the greatest number ends last.
+fn columns_fit(cs: &[u8], b: usize, from: usize, stride: usize, count: usize) -> bool
+    requires { ⌜ 1 ≤ length (now cs) ⌝ }
+    ensures { λ v. ⌜ v ≡ columnsFit (now (cs .entry)) b from stride count ⌝ }
+{
+    ends_within(wide(greatest(cs)), b, from, stride, count)
 }
 
 // Whether the numbers fit a matrix of a bytes, columns in b bytes and rows of c bytes.
 fn fits(
     rows: usize,
-    m: usize,
+    cs: &[u8],
     from: usize,
     stride: usize,
     count: usize,
@@ -384,15 +441,15 @@ fn fits(
     b: usize,
     c: usize,
 ) -> bool
-    ensures { λ v. ⌜ v ≡ matrixFits rows m from stride count a b c ⌝ }
+    ensures { λ v. ⌜ v ≡ matrixFits rows (now (cs .entry)) from stride count a b c ⌝ }
 {
-    if !numbers_fit(rows, m, count) {
+    if !numbers_fit(rows, cs.len(), count) {
         return false;
     }
-    if a != rows * m {
+    if a != rows * cs.len() {
         return false;
     }
-    if !columns_fit(m, b, from, stride, count) {
+    if !columns_fit(cs, b, from, stride, count) {
         return false;
     }
     c == rows * count
@@ -408,11 +465,11 @@ fn alone(rows: usize, count: usize) -> bool
     255 < count
 }
 
-// The rows of the matrix times m columns, at the `count` places from `from` on: the columns lie `stride` apart, so byte q of column i
-// stands at from + i * stride + q. Where the numbers do not fit, what is there stays.
+// The rows of the matrix times columns, at the `count` places from `from` on: `at` lists the numbers of the columns, which lie `stride`
+// apart, so byte q of the i-th column used stands at from + at[i] * stride + q. Where the numbers do not fit, what is there stays.
 pub fn apply(
     rows: usize,
-    m: usize,
+    at: &[u8],
     matrix: &[u8],
     columns: &[u8],
     from: usize,
@@ -421,11 +478,11 @@ pub fn apply(
     out: &mut [u8],
 )
     ensures { λ _. ⌜ now (out .exit)
-        ≡ becomes rows m (now (matrix .entry)) (now (columns .entry)) from stride count (now (out .entry)) ⌝ }
+        ≡ becomes rows (now (at .entry)) (now (matrix .entry)) (now (columns .entry)) from stride count (now (out .entry)) ⌝ }
 {
     if !fits(
         rows,
-        m,
+        at,
         from,
         stride,
         count,
@@ -436,8 +493,8 @@ pub fn apply(
         return;
     }
     if alone(rows, count) {
-        one_row(matrix, columns, from, stride, count, out);
+        one_row(matrix, at, columns, from, stride, count, out);
         return;
     }
-    fill(rows, m, matrix, columns, from, stride, count, out);
+    fill(rows, at, matrix, columns, from, stride, count, out);
 }

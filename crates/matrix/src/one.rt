@@ -26,34 +26,35 @@ fn halve(p: &mut [u8])
     }
 }
 
-// The numbers below m whose byte is odd, from `at` on; how many they are comes back. Each number is written, and the next one is
-// written over it where its byte is even: so no step depends on the byte.
-fn odd(ls: &mut [u8], at: usize, p: &[u8], m: usize) -> usize
-    requires { ⌜ (at + m ≤ length (now ls)) × ((m ≤ 255) × (m ≤ length (now p))) ⌝ }
-    ensures { λ n. ⌜ Listed (λ i. getD (now (p .entry)) i 0 % 2) m at n (now (ls .exit)) ⌝ }
+// The numbers whose byte is odd, from `at` on; how many they are comes back. Each number is written, and the next one is written over
+// it where its byte is even: so no step depends on the byte.
+fn odd(ls: &mut [u8], at: usize, p: &[u8], cs: &[u8]) -> usize
+    requires { ⌜ (at + length (now cs) ≤ length (now ls)) × (length (now cs) ≤ length (now p)) ⌝ }
+    ensures { λ n. ⌜ Listed (λ i. getD (now (p .entry)) i 0 % 2) (now (cs .entry)) (length (now (cs .entry))) at n (now (ls .exit)) ⌝ }
     ensures { λ _. ⌜ ((i : ℕ) → i < at → getD (now (ls .exit)) i 0 ≡ getD (now (ls .entry)) i 0) ⌝ }
 {
     let mut n = 0;
     let mut i = 0;
-    while i < m {
+    while i < cs.len() {
         let o = at + n;
-        ls[o] = i as u8;
+        ls[o] = cs[i];
         n += wide(p[i] % 2);
         i += 1;
     }
     n
 }
 
-// The lists of the eight bits of the weights, 256 apart, and how long they are.
-fn lists(ls: &mut [u8], ns: &mut [u8], weights: &[u8])
-    requires { ⌜ (length (now ls) ≡ 2048) × ((length (now ns) ≡ 8) × (length (now weights) ≤ 255)) ⌝ }
-    ensures { λ _. ⌜ Lists (now (weights .entry)) 8 (now (ns .exit)) (now (ls .exit)) ⌝ }
+// The lists of the columns by the eight bits of their weights, 256 apart, and how long they are.
+fn lists(ls: &mut [u8], ns: &mut [u8], weights: &[u8], cs: &[u8])
+    requires { ⌜ (length (now ls) ≡ 2048) × ((length (now ns) ≡ 8)
+        × ((length (now weights) ≡ length (now cs)) × (length (now cs) ≤ 255))) ⌝ }
+    ensures { λ _. ⌜ Lists (now (weights .entry)) (now (cs .entry)) 8 (now (ns .exit)) (now (ls .exit)) ⌝ }
 {
     let mut p = [0u8; 256];
     copy(&mut p, weights);
     let mut b = 0;
     while b < 8 {
-        let n = odd(ls, b * 256, &p, weights.len());
+        let n = odd(ls, b * 256, &p, cs);
         ns[b] = n as u8;
         halve(&mut p);
         b += 1;
@@ -123,20 +124,21 @@ fn put_block(out: &mut [u8], at: usize, w: usize, b: &[u8; 64])
 // The row of these weights at every place.
 pub(crate) fn one_row(
     weights: &[u8],
+    cs: &[u8],
     columns: &[u8],
     from: usize,
     stride: usize,
     count: usize,
     out: &mut [u8],
 )
-    requires { ⌜ (1 ≤ length (now weights)) × ((length (now weights) ≤ 255)
-        × (Inside (now columns) from stride (length (now weights)) count × (length (now out) ≡ count))) ⌝ }
-    ensures { λ _. ⌜ Held (now (weights .entry)) (length (now (weights .entry))) (now (columns .entry)) from stride count 1
-        (length (now (weights .entry))) (now (out .exit)) ⌝ }
+    requires { ⌜ (1 ≤ length (now cs)) × ((length (now cs) ≤ 255) × ((length (now weights) ≡ length (now cs))
+        × (Inside (now columns) (now cs) from stride count × (length (now out) ≡ count)))) ⌝ }
+    ensures { λ _. ⌜ Held (now (weights .entry)) (now (cs .entry)) (now (columns .entry)) from stride count 1 (length (now (cs .entry)))
+        (now (out .exit)) ⌝ }
 {
     let mut ls = [0u8; 2048];
     let mut ns = [0u8; 8];
-    lists(&mut ls, &mut ns, weights);
+    lists(&mut ls, &mut ns, weights, cs);
     let mut at = 0;
     while at < count {
         let w = shorter(64, count - at);

@@ -18,7 +18,7 @@ use Rattle.lanes.specs.Lanes.{onto}
 use Rattle.lanes.proofs.Onto.{onto-length, onto-at}
 use Rattle.lanes.proofs.Parts.{part-length, part-at, back-length, back-inside, back-outside}
 use Rattle.stripe.specs.declared.Shape.{Shape}
-use Rattle.stripe.specs.Shape.{columns, parityLength, stripeLength, mostColumns, mostLength, mostParityLength}
+use Rattle.stripe.specs.Shape.{columns, parityLength, stripeLength, mostColumns, mostLength, mostRowsLength}
 use Rattle.stripe.specs.Stripe.{among}
 use Rattle.stripe.proofs.Allowed.{Allowed}
 use Rattle.stripe.proofs.Places.{across-length, across-first}
@@ -30,7 +30,8 @@ use Rattle.mending.specs.declared.system.System.{System}
 use Rattle.mending.specs.Slots.{Outside}
 use Rattle.mending.specs.System.{lostIn, gone, Other, Posed}
 use Rattle.mending.specs.Scratch.{rowByte, slotRow, MendedBelow, SettledBelow}
-use Rattle.mending.proofs.Posed.{count-is, row-below, position-is, position-below, ascending-apart, among-index, among-each, spread, by-one}
+use Rattle.mending.proofs.Posed.{ascending-apart, among-index, among-each, by-one}
+use Rattle.mending.proofs.Posed.{few-rows, rows-length, count-is, spread, row-below, position-is, position-below}
 use Rattle.mending.proofs.Runs.{place-off, word-is}
 
 module _ (s : Shape) (f : Allowed s) (p : System) (w : Posed s p) where
@@ -163,7 +164,7 @@ module _ (s : Shape) (f : Allowed s) (p : System) (w : Posed s p) where
         go false e =
             let m : among c (lostIn p) ≡ false = sym (lost-data-among (s .k) c (lostIn p) hc) ∙ e in
             added-kept c y hy m ∙ before
-            ∙ word-mended-agrees (s .k) (s .r) (lostIn p) (f .data-most) (f .parity-most) (w .ascend) (w .fits) (dataAt s xs y)
+            ∙ word-mended-agrees (s .k) (s .r) (lostIn p) (f .data-most) (few-rows s f p w) (w .ascend) (w .fits) (dataAt s xs y)
             (across-length xs (s .l) y 0 (s .k))
             (wanted s (lostIn p) xs y) c hc m
         go true e =
@@ -173,7 +174,7 @@ module _ (s : Shape) (f : Allowed s) (p : System) (w : Posed s p) where
             ap (λ (x : ℕ). rowByte s ys x y) here ∙ a .own (i .0) y (omega (arith, w .many)) hy
             ∙ ap₂ _⊕_ (ap (λ (x : ℕ). rowByte s xs x y) (sym here) ∙ before ∙ ap (λ (x : ℕ). getD (dataAt s xs y) x 0) (i .1 .1))
             (ap (λ (x : ℕ). rowByte s slots x y) (slot-data (i .0) _ hv) ∙ t .errors y hy (i .0) hv)
-            ∙ sym (word-mended-own (s .k) (s .r) (lostIn p) (f .data-most) (f .parity-most) (w .ascend) (w .fits) (dataAt s xs y)
+            ∙ sym (word-mended-own (s .k) (s .r) (lostIn p) (f .data-most) (few-rows s f p w) (w .ascend) (w .fits) (dataAt s xs y)
             (across-length xs (s .l) y 0 (s .k))
             (wanted s (lostIn p) xs y) (i .0) (i .1 .0))
             ∙ ap (λ (x : ℕ). getD (wordMended (s .k) (lostIn p) (dataAt s xs y) (wanted s (lostIn p) xs y)) x 0) (sym (i .1 .1))
@@ -217,8 +218,8 @@ module _ (s : Shape) (f : Allowed s) (p : System) (w : Posed s p) where
 pub record WriteSizes (s : Shape) (i : ℕ) : Type 0 where
   pub column : i * s .l + s .l ≤ stripeLength s
   pub most : stripeLength s ≤ mostColumns * mostLength
-  pub small : parityLength s ≤ mostParityLength
+  pub small : parityLength s ≤ mostRowsLength
 
 pub write-sizes : (s : Shape) (f : Allowed s) (p : System) → Posed s p → (v : ℕ) → v < p .lost .count → WriteSizes s (getD (p .lost .at) v 0)
 write-sizes s f p w v h =
-    record { column = column-ends s f p w (getD (p .lost .at) v 0) (lost-position s f p w v h); most = f .stripe-length; small = f .parity-length }
+    record { column = column-ends s f p w (getD (p .lost .at) v 0) (lost-position s f p w v h); most = f .stripe-length; small = rows-length s f p w }

@@ -9,8 +9,8 @@ use Rattle.field.specs.Bytes.{Bytes}
 use Rattle.field.proofs.Cases.{zero-or-not}
 use Rattle.stripe.specs.declared.Shape.{Shape}
 use Rattle.stripe.specs.Stripe.{Agree}
-use Rattle.stripe.proofs.Determined.{determined, agree-sym, agree-trans}
-use Rattle.stripe.proofs.Completed.{completed}
+use Rattle.stripe.proofs.Determined.{agree-sym, agree-trans}
+use Rattle.equations.proofs.Codes.{determined, completed}
 use Rattle.lost.specs.Positions.{positions}
 use Rattle.mending.specs.Mend.{mendRefusal, Restored, Mended}
 use Rattle.mending.proofs.Passed.{Passed, passed}

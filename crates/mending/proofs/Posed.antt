@@ -16,9 +16,9 @@ use Rattle.field.proofs.Xor.{add-lt}
 use Rattle.field.proofs.Mul.{mul-add, mul-assoc, mul-zero, mul-lt, mul-comm, one-mul, mul-inverse, gpow-zero, gpow-add, gpow-lt, gpow-pos}
 use Rattle.field.proofs.Solve.{solve-same, solve-moment, solved}
 use Rattle.stripe.specs.declared.Shape.{Shape}
-use Rattle.stripe.specs.Shape.{columns, mostParity}
+use Rattle.stripe.specs.Shape.{columns, parityLength, mostRows, mostRowsLength}
 use Rattle.stripe.specs.Stripe.{runs, among, Ascending, plainRuns}
-use Rattle.stripe.proofs.Allowed.{Allowed, allowed, plain-runs}
+use Rattle.stripe.proofs.Allowed.{Allowed, allowed, rows-most, plain-runs}
 use Rattle.stripe.proofs.Survivors.{Spread, firstRow, rowStep}
 use Rattle.stripe.proofs.Lost.{lostData, rowLost, lost-data-ascending, ascending-at}
 use Rattle.stripe.proofs.Errors.{points, points-length, points-bytes, points-weights, points-apart}
@@ -27,7 +27,7 @@ use Rattle.stripe.proofs.Word.{wordErrors, word-spread}
 use Rattle.lost.specs.declared.Lost.{Lost}
 use Rattle.mending.specs.declared.system.System.{System}
 use Rattle.lost.specs.Lost.{lostList, capacity}
-use Rattle.mending.specs.Restore.{Ready}
+use Rattle.mending.specs.Restore.{Ready, ReadyRows}
 use Rattle.mending.specs.Slots.{weighted}
 use Rattle.mending.specs.System.{less, lostIn, gone, PivotOf, Posed}
 
@@ -135,11 +135,17 @@ weighted-row j (i ∷ is) (x ∷ es) f e h =
 -- ---- the system's facts
 
 module _ (s : Shape) (f : Allowed s) (p : System) (w : Posed s p) where
+  pub few-rows : s .r ≤ mostRows
+  few-rows = rows-most s f (w .rows)
+
+  pub rows-length : parityLength s ≤ mostRowsLength
+  rows-length = mul-le-mul few-rows (f .length-most)
+
   pub count-is : p .count ≡ length (gone s p)
   count-is = sym (length-take-le (p .count) (p .lost .at) (omega (arith, w .many, w .few, w .room))) ∙ ap length (w .front)
 
   pub spread : Spread (rowLost (s .k) (lostIn p)) (s .r) (length (gone s p)) (firstRow (rowLost (s .k) (lostIn p))) (rowStep (rowLost (s .k) (lostIn p)))
-  spread = word-spread (s .k) (s .r) (lostIn p) (f .data-most) (f .parity-most) (w .ascend) (w .fits)
+  spread = word-spread (s .k) (s .r) (lostIn p) (f .data-most) few-rows (w .ascend) (w .fits)
 
   first-small : (lost : ℕ → Bool) → firstRow lost ≤ 2
   unfolding firstRow
@@ -239,10 +245,10 @@ less-at x [] v h = absurd (omega arith)
 less-at x (i ∷ is) zero h = refl
 less-at x (i ∷ is) (suc v) h = less-at x is v (omega arith)
 
-pub small-product : (i x j : ℕ) → i < 256 → j < mostParity → (i - x) * j ≤ 256 * mostParity
-small-product i x j h k = mul-le-mul {n₂ = 256} {m₂ = mostParity} (omega arith) (omega arith)
+pub small-product : (i x j : ℕ) → i < 256 → j < mostRows → (i - x) * j ≤ 256 * mostRows
+small-product i x j h k = mul-le-mul {n₂ = 256} {m₂ = mostRows} (omega arith) (omega arith)
 
-pub weights-done : (at ws : List ℕ) (e x j v : ℕ) → e ≤ v → e ≤ capacity → length at ≡ capacity → length ws ≡ capacity
+pub weights-done : (at ws : List ℕ) (e x j v : ℕ) → e ≤ v → e ≤ mostRows → length at ≡ capacity → length ws ≡ mostRows
     → ((u : ℕ) → u < v → getD ws u 0 ≡ gpow ((getD at u 0 - x) * j)) → take e ws ≡ points j (less x (take e at))
 weights-done at ws e x j v he few room long h =
     ext-getD 0 _ _ (cut ∙ sym (points-length j (less x (take e at)) ∙ less-length x (take e at) ∙ many)) (λ u l. each u (subst (λ (z : ℕ). u < z) cut l))
@@ -262,14 +268,15 @@ weights-done at ws e x j v he few room long h =
         ∙ sym (points-at j (less x (take e at)) u (omega (arith, many, less-length x (take e at))))
 
 -- the system from its parts
-pub posed : (s : Shape) (w : Lost) (e x a d : ℕ) → Ready s w → e ≤ w .count → take e (w .at) ≡ lostData (s .k) (lostList w)
+pub posed : (s : Shape) (w : Lost) (e x a d : ℕ) → ReadyRows s w → e ≤ w .count → take e (w .at) ≡ lostData (s .k) (lostList w)
     → PivotOf (s .t) e (w .count) (getD (w .at) 0 0) x
     → a ≡ firstRow (rowLost (s .k) (lostList w)) → d ≡ rowStep (rowLost (s .k) (lostList w))
     → Posed s record { lost = w; count = e; pivot = x; first = a; step = d }
-posed s w e x a d r he front from ea ed =
+posed s w e x a d ready he front from ea ed =
     record {
+      rows = ready .rows;
       room = r .room;
-      few = omega (arith, r .few, f .parity-most);
+      few = omega (arith, r .few, rows-most s f (ready .rows));
       ascend = r .ascend;
       fits = omega (arith, r .few, long);
       many = he;
@@ -282,11 +289,14 @@ posed s w e x a d r he front from ea ed =
       pivot-apart = apart from;
     }
   where
+    r : Ready s w
+    r = ready .ready
+
     f : Allowed s
     f = allowed s (r .shape)
 
     long : length (lostList w) ≡ w .count
-    long = length-take-le (w .count) (w .at) (omega (arith, r .room, r .few, f .parity-most))
+    long = length-take-le (w .count) (w .at) (omega (arith, r .room, r .few, rows-most s f (ready .rows)))
 
     at : (v : ℕ) → v < w .count → getD (lostList w) v 0 ≡ getD (w .at) v 0
     at v h = getD-take (w .count) (w .at) v 0 h
@@ -327,8 +337,8 @@ posed s w e x a d r he front from ea ed =
     apart (inr q) = inr (q .0, omega (arith, q .1 .1 .1, at 0 (omega (arith, q .1 .0)), data-only (q .1 .1 .0) 0 (omega (arith, q .1 .0))))
 
 -- what the weights are asked for
-pub weights-asked : (s : Shape) (p : System) (x j : ℕ) → Allowed s → Posed s p → x ≤ p .pivot → j < mostParity
-    → (length (p .lost .at) ≡ capacity) × ((p .count ≤ capacity) × ((j < mostParity)
+pub weights-asked : (s : Shape) (p : System) (x j : ℕ) → Allowed s → Posed s p → x ≤ p .pivot → j < mostRows
+    → (length (p .lost .at) ≡ capacity) × ((p .count ≤ mostRows) × ((j < mostRows)
     × ((v : ℕ) → v < p .count → (x ≤ getD (p .lost .at) v 0) × (getD (p .lost .at) v 0 < 256))))
 weights-asked s p x j f w hx hj =
     (w .room, (omega (arith, w .many, w .few), (hj, λ v h. (omega (arith, w .pivot-below v h), omega (arith, position-below s f p w v h, f .data-most)))))

@@ -16,8 +16,9 @@ use Rattle.field.proofs.Bytes.{tabulate-length}
 use Rattle.stripe.specs.declared.Shape.{Shape}
 use Rattle.stripe.specs.Shape.{shapeRefusal, columns, dataLength, stripeLength}
 use Rattle.stripe.specs.Stripe.{runLength, parityByte, dataOf, among, Ascending, plainRuns}
-use Rattle.stripe.proofs.Allowed.{Allowed, allowed}
-use Rattle.stripe.proofs.Places.{place-lt, by-places, across-first, data-of-length, checks-codeword}
+use Rattle.stripe.proofs.Allowed.{Allowed, all-by-rows, allowed, rows-most}
+use Rattle.stripe.proofs.Places.{place-lt, by-places, across-first, data-of-length}
+use Rattle.stripe.proofs.Codewords.{checks-codeword}
 use Rattle.stripe.proofs.Mended.{checkAt, wanted, wordAt, wanted-below, wanted-from, dataMended, data-mended-length}
 use Rattle.stripe.proofs.Mended.{data-mended-at, mended-parity-below, mended-parity-from, parity-wanted, mended-agrees-exactly}
 use Rattle.stripe.proofs.Determined.{mendable}
@@ -45,8 +46,8 @@ module _ (s : Shape) (h : shapeRefusal s ≡ 0) (p : System) (w : Posed s p) (xs
   none-restored wrong zs r =
       wrong
       (λ j y hj hy m.
-      mended-agrees-exactly s facts (lostIn p) (w .ascend) (w .fits) xs bytes .0
-      (mendable s h (lostIn p) (w .ascend) (w .fits) xs bytes .0 (zs, (r .codeword, r .agrees))) y hy j hj m)
+      mended-agrees-exactly s (w .rows) facts (lostIn p) (w .ascend) (w .fits) xs bytes .0
+      (mendable s (w .rows) h (lostIn p) (w .ascend) (w .fits) xs bytes .0 (zs, (r .codeword, r .agrees))) y hy j hj m)
 
   module _ (slots ys : List ℕ) (bs : Bytes slots) (by : Bytes ys) (long : length ys ≡ stripeLength s) (t : SettledBelow s p xs (s .r) slots)
       (a : MendedBelow s p (p .lost .count) slots xs ys) where
@@ -66,10 +67,10 @@ module _ (s : Shape) (h : shapeRefusal s ≡ 0) (p : System) (w : Posed s p) (xs
             → checkAt s xs y i ⊕ (wanted s (lostIn p) xs y i ⊕ row i (wordAt s (lostIn p) xs y)) ≡ parityByte s (dataMended s (lostIn p) xs) i y
         go (inl l) =
             ap (λ (z : ℕ). checkAt s xs y i ⊕ (z ⊕ row i (wordAt s (lostIn p) xs y))) (wanted-below s (lostIn p) xs y i l) ∙ add-cancel _ _
-            ∙ sym (mended-parity-below s (lostIn p) xs i y hy l)
+            ∙ sym (mended-parity-below s (lostIn p) xs i y (w .rows) hy l)
         go (inr l) =
             ap (λ (z : ℕ). checkAt s xs y i ⊕ (z ⊕ row i (wordAt s (lostIn p) xs y))) (wanted-from s (lostIn p) xs y i l) ∙ cancel-from _ _ _
-            ∙ sym (mended-parity-from s (lostIn p) xs i y facts hi hy l)
+            ∙ sym (mended-parity-from s (lostIn p) xs i y (w .rows) facts hi hy l)
 
     check : (i y : ℕ) → i < s .r → y < s .l → getD ys ((s .k + i) * s .l + y) 0 ≡ parityByte s (dataOf s ys) i y
     check i y hi hy = go (among (s .k + i) (lostIn p)) refl ∙ ap (λ (ds : List ℕ). parityByte s ds i y) (sym same-data)
@@ -78,7 +79,7 @@ module _ (s : Shape) (h : shapeRefusal s ≡ 0) (p : System) (w : Posed s p) (xs
         go true m = lost-row i y hi hy m
         go false m =
             added-kept s facts p w slots xs ys bs t a (s .k + i) y hy m
-            ∙ sym (parity-wanted s (lostIn p) xs i y facts hi hy .0 (all-fine s facts p w xs slots bytes t i y hi hy m))
+            ∙ sym (parity-wanted s (lostIn p) xs i y (w .rows) facts hi hy .0 (all-fine s facts p w xs slots bytes t i y hi hy m))
 
     pub restored : Restored s (lostIn p) xs ys
     restored =
@@ -104,7 +105,7 @@ module _ (s : Shape) (ls xs : List ℕ) (z : mendRefusal s (length xs) ls ≡ 0)
   pass = passed s (length xs) ls z
 
   pub list-same : lostList (lostOf ls) ≡ positions ls
-  list-same = listed-positions ls (omega (arith, pass .few, allowed s (pass .shape) .parity-most))
+  list-same = listed-positions ls (omega (arith, pass .few, rows-most s (allowed s (pass .shape)) (all-by-rows s (pass .shape))))
 
   pub ready : Ready s (lostOf ls)
   ready =

@@ -15,7 +15,7 @@ use Rattle.field.proofs.Rows.{row-lt}
 use Rattle.field.proofs.Solve.{solve-same}
 use Rattle.field.proofs.Cases.{below-or-from}
 use Rattle.stripe.specs.declared.Shape.{Shape}
-use Rattle.stripe.specs.Shape.{parityLength, mostParity, mostLength, mostParityLength}
+use Rattle.stripe.specs.Shape.{parityLength, mostRows, mostLength, mostRowsLength}
 use Rattle.stripe.specs.Stripe.{runs, runLength, dataOf, rowAt, plainRuns}
 use Rattle.stripe.proofs.Allowed.{Allowed}
 use Rattle.stripe.proofs.Places.{place-column, place-byte, across-length, parity-below, parity-from, row-at-stripe}
@@ -29,7 +29,8 @@ use Rattle.mending.specs.Slots.{weighted, Outside, Sources, Gathered, Sp
 use Rattle.mending.specs.System.{less, lostIn, gone, Other, Posed}
 use Rattle.mending.specs.Scratch.{rowByte, Lies, lackAt, errorsAt, HoldsErrors, Lacks, SolvedBelow, Carried}
 use Rattle.mending.proofs.Slots.{weighted-same}
-use Rattle.mending.proofs.Posed.{count-is, row-below, first-few, step-few, step-some, less-length, by-one, weighted-row, pivot-errors}
+use Rattle.mending.proofs.Posed.{less-length, by-one, weighted-row}
+use Rattle.mending.proofs.Posed.{few-rows, rows-length, count-is, first-few, step-some, step-few, row-below, pivot-errors}
 
 -- a place of another column, or outside n places from a on, is none of these places of column i
 pub place-off : (c i y a n l : ℕ) → y < l → a + n ≤ l → (c ≡ i → ⊥) ⊎ Outside a n y → Outside (i * l + a) n (c * l + y)
@@ -61,7 +62,7 @@ module _ (s : Shape) (f : Allowed s) (p : System) (w : Posed s p) (xs : List ℕ
   pub word-row : (j y : ℕ) → row j (wordAt s (lostIn p) xs y) ≡ row j (dataAt s xs y) ⊕ errorRow j (gone s p) (errorsAt s p xs y)
   word-row j y =
       ap (row j) (word-is s (lostIn p) xs y)
-      ∙ word-mended-row (s .k) (s .r) (lostIn p) (f .data-most) (f .parity-most) (w .ascend) (w .fits) (dataAt s xs y) (across-length xs (s .l) y 0 (s .k))
+      ∙ word-mended-row (s .k) (s .r) (lostIn p) (f .data-most) (few-rows s f p w) (w .ascend) (w .fits) (dataAt s xs y) (across-length xs (s .l) y 0 (s .k))
       (wanted s (lostIn p) xs y) j
 
   module _ (b : ℕ) (hb : b < runs s) (ys us zs : List ℕ) (by : Bytes ys) (bu : Bytes us) (t : SolvedBelow s p xs b ys) (c : Carried s p b (s .r) ys us)
@@ -94,7 +95,7 @@ module _ (s : Shape) (f : Allowed s) (p : System) (w : Posed s p) (xs : List ℕ
             let below : place q / runLength s < plainRuns s = subst (λ (z : ℕ). z < plainRuns s) (sym run-is) h in
             ap (λ (z : ℕ). gpow (j * p .pivot) ⊗ z) (c .off j (place q) hj (in-column q hq) (inl h)) ∙ lies
             ∙ ap₂ _⊕_ (sym (wanted-below s (lostIn p) xs (place q) j below))
-            (parity-below s (dataOf s xs) j (place q) below ∙ row-at-stripe s xs j (place q) (in-column q hq))
+            (parity-below s (dataOf s xs) j (place q) (w .rows) below ∙ row-at-stripe s xs j (place q) (in-column q hq))
         go (inr h) =
             let from : plainRuns s ≤ place q / runLength s = subst (λ (z : ℕ). plainRuns s ≤ z) (sym run-is) h in
             let none : p .pivot ≡ 0 = w .pivot-plain (omega arith) in
@@ -108,7 +109,7 @@ module _ (s : Shape) (f : Allowed s) (p : System) (w : Posed s p) (xs : List ℕ
             ∙ ap₂ _⊕_
             (sym (by-one j (p .pivot) _ none (by _)) ∙ lies
             ∙ ap (λ (z : ℕ). checkAt s xs (place q) j ⊕ z)
-            (parity-from s (dataOf s xs) j (place q) from
+            (parity-from s (dataOf s xs) j (place q) (w .rows) from
             ∙ ap₂ _⊕_ (row-at-stripe s xs j (place q) (in-column q hq))
             (ap₂ (λ (x z : ℕ). rowAt s (dataOf s xs) x (j * runLength s + z)) run-is rest-is ∙ row-at-stripe s xs b y inside)))
             (weighted-row b (gone s p) (errorsAt s p xs y) _ (errors-long (s .k) (lostIn p) _ _)
@@ -216,7 +217,7 @@ module _ (s : Shape) (f : Allowed s) (p : System) (w : Posed s p) (b j m : ℕ) 
       subst (λ (z : ℕ). Sources (p .count) (j * s .l + b * z) (p .first * s .l + j * z) (p .step * s .l) z len) (sym hm)
       record {
         few = omega (arith, w .many, w .few);
-        small = omega (arith, f .parity-length);
+        small = omega (arith, rows-length s f p w);
         target = omega (arith, column-ends j hj, ends b (omega arith));
         source =
             λ v h. omega (
@@ -277,26 +278,26 @@ module _ (s : Shape) (f : Allowed s) (p : System) (w : Posed s p) (b j m : ℕ) 
 
 -- ---- sizes
 
-pub first-length : (s : Shape) (p : System) → Allowed s → Posed s p → p .first * s .l ≤ mostParityLength
-first-length s p f w = mul-le-mul {n₂ = mostParity} {m₂ = mostLength} (omega (arith, first-few s f p w)) (f .length-most)
+pub first-length : (s : Shape) (p : System) → Allowed s → Posed s p → p .first * s .l ≤ mostRowsLength
+first-length s p f w = mul-le-mul {n₂ = mostRows} {m₂ = mostLength} (omega (arith, first-few s f p w)) (f .length-most)
 
-pub step-length : (s : Shape) (p : System) → Allowed s → Posed s p → p .step * s .l ≤ mostParityLength
-step-length s p f w = mul-le-mul {n₂ = mostParity} {m₂ = mostLength} (omega (arith, step-few s f p w)) (f .length-most)
+pub step-length : (s : Shape) (p : System) → Allowed s → Posed s p → p .step * s .l ≤ mostRowsLength
+step-length s p f w = mul-le-mul {n₂ = mostRows} {m₂ = mostLength} (omega (arith, step-few s f p w)) (f .length-most)
 
 pub record Sizes (s : Shape) (p : System) (b j m : ℕ) : Type 0 where
-  pub row : j * s .l ≤ mostParityLength
-  pub run : b * m ≤ mostParityLength
-  pub first : p .first * s .l ≤ mostParityLength
-  pub like : j * m ≤ mostParityLength
-  pub step : p .step * s .l ≤ mostParityLength
+  pub row : j * s .l ≤ mostRowsLength
+  pub run : b * m ≤ mostRowsLength
+  pub first : p .first * s .l ≤ mostRowsLength
+  pub like : j * m ≤ mostRowsLength
+  pub step : p .step * s .l ≤ mostRowsLength
 
 pub sizes : (s : Shape) (p : System) (b j m : ℕ) → Allowed s → Posed s p → m ≡ runLength s → b < runs s → j < s .r → Sizes s p b j m
 sizes s p b j m f w hm hb hj =
     record {
-      row = mul-le-mul {n₂ = mostParity} {m₂ = mostLength} (omega (arith, f .parity-most)) (f .length-most);
-      run = mul-le-mul {n₂ = mostParity} {m₂ = mostLength} (omega (arith, f .runs-most)) short;
+      row = mul-le-mul {n₂ = mostRows} {m₂ = mostLength} (omega (arith, few-rows s f p w)) (f .length-most);
+      run = mul-le-mul {n₂ = mostRows} {m₂ = mostLength} (omega (arith, f .runs-most)) short;
       first = first-length s p f w;
-      like = mul-le-mul {n₂ = mostParity} {m₂ = mostLength} (omega (arith, f .parity-most)) short;
+      like = mul-le-mul {n₂ = mostRows} {m₂ = mostLength} (omega (arith, few-rows s f p w)) short;
       step = step-length s p f w;
     }
   where
@@ -309,7 +310,7 @@ pub run-spaced : (s : Shape) (p : System) (b m len : ℕ) → Allowed s → Pose
 run-spaced s p b m len f w hm hb long =
     record {
       few = omega (arith, w .many, w .few);
-      small = omega (arith, f .parity-length);
+      small = omega (arith, rows-length s f p w);
       step = step-length s p f w;
       wide = omega (arith, f .run-most, hm, mul-le-mul-right (s .l) (step-some s f p w));
       room = λ v h.

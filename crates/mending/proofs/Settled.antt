@@ -34,7 +34,7 @@ use Rattle.mending.specs.Slots.{Outside, Sources, Gathered}
 use Rattle.mending.specs.System.{less, lostIn, gone, Solver, Other, Posed}
 use Rattle.syndromes.specs.Syndromes.{Says}
 use Rattle.mending.specs.Scratch.{rowByte, errorsAt, StillLacks, Fine, AllFine, SolvedBelow, SettledBelow, RowSettles}
-use Rattle.mending.proofs.Posed.{count-is, less-length, row-below, pivot-row, pivot-gone, power-zero-only, weighted-row, ordered, spread}
+use Rattle.mending.proofs.Posed.{rows-length, count-is, less-length, row-below, pivot-row, pivot-gone, power-zero-only, weighted-row, ordered, spread}
 use Rattle.mending.proofs.Runs.{place-off, errors-long, word-is, word-row, slot-place}
 
 -- ---- which rows are solved by
@@ -175,7 +175,7 @@ pub finish-sources : (s : Shape) (f : Allowed s) (p : System) (w : Posed s p) (j
 finish-sources s f p w j hj o len long =
     record {
       few = omega (arith, w .many, w .few);
-      small = omega (arith, f .parity-length);
+      small = omega (arith, rows-length s f p w);
       target = omega (arith, mul-le-mul-right (s .l) hj, add-mul j 1 (s .l));
       source =
           λ v h. omega

@@ -19,7 +19,7 @@ use Rattle.field.proofs.Solve.{solve-same, solve-bytes, solve-length, apart-len
 use Rattle.field.proofs.Cases.{below-or-from}
 use Rattle.lanes.proofs.Onto.{map-at}
 use Rattle.lanes.proofs.Parts.{part-length, part-at, back-length, back-inside, back-outside}
-use Rattle.lost.specs.Lost.{capacity}
+use Rattle.stripe.specs.Shape.{mostRows}
 use Rattle.products.proofs.Mixing.{Disjoint, Within}
 use Rattle.mending.specs.Slots.{slotsAt, weighted, Outside, Sources, Gathered, Spaced, OffSlots, Cleared, SetApart, First, Solved}
 
@@ -311,7 +311,7 @@ solved-none bs ws a d n xs h = record { long = refl; at = λ q v hq hv. absurd (
 less-one : (n : ℕ) → suc n - 1 ≡ n
 less-one n = omega arith
 
-pub solved-turn : (bs ws : List ℕ) (a d n : ℕ) (xs ys ap′ us out : List ℕ) → (length bs ≡ 0 → ⊥) → length ws ≡ length bs → length bs ≤ capacity → n ≤ d
+pub solved-turn : (bs ws : List ℕ) (a d n : ℕ) (xs ys ap′ us out : List ℕ) → (length bs ≡ 0 → ⊥) → length ws ≡ length bs → length bs ≤ mostRows → n ≤ d
     → Cleared (getD bs 0 0) (length bs) a d n xs ys → SetApart bs ws ap′
     → Solved (take (length bs - 1) (drop 1 bs)) (take (length bs - 1) ap′) (a + d) d n ys us
     → First ws a d n us out → Solved bs ws a d n xs out

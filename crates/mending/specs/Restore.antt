@@ -1,12 +1,13 @@
 -- A record that nothing is refused of, and what restoring leaves.
 use Prim.Native.Nat.{ℕ, _≤_}
 use mathlib.Core.Path.{_≡_}
+use mathlib.Core.Bool.{false}
 use mathlib.Core.Logic.{_⊎_}
 use mathlib.Core.List.{List}
 use lib.ListN.{length}
 use Rattle.stripe.specs.declared.Shape.{Shape}
 use Rattle.stripe.specs.Shape.{shapeRefusal, columns}
-use Rattle.stripe.specs.Stripe.{Ascending}
+use Rattle.stripe.specs.Stripe.{byPoints, Ascending}
 use Rattle.lost.specs.declared.Lost.{Lost}
 use Rattle.lost.specs.Lost.{lostList, capacity}
 use Rattle.mending.specs.Mend.{Restored}
@@ -16,6 +17,11 @@ pub record Ready (s : Shape) (w : Lost) : Type 0 where
   pub room : length (w .at) ≡ capacity
   pub few : w .count ≤ s .r
   pub ascend : Ascending 0 (columns s) (lostList w)
+
+-- the same of a stripe by rows
+pub record ReadyRows (s : Shape) (w : Lost) : Type 0 where
+  pub ready : Ready s w
+  pub rows : byPoints s ≡ false
 
 abbrev pub Restores : Shape → List ℕ → List ℕ → ℕ → List ℕ → Type 0
 Restores s es xs v ys = ((v ≡ 0) × Restored s es xs ys) ⊎ ((v ≡ 8) × ((ys ≡ xs) × ((zs : List ℕ) → Restored s es xs zs → ⊥)))

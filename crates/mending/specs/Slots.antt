@@ -6,8 +6,7 @@ use mathlib.Core.List.{List, [], _∷_}
 use lib.ListN.{length, getD, drop}
 use Rattle.field.specs.Field.{_⊕_, _⊗_, inverseOf}
 use Rattle.field.specs.Solve.{solve}
-use Rattle.stripe.specs.Shape.{mostParityLength}
-use Rattle.lost.specs.Lost.{capacity}
+use Rattle.stripe.specs.Shape.{mostRows, mostRowsLength}
 
 -- what the slots from a on, d apart, hold at place q, by their number
 abbrev pub slotsAt : List ℕ → ℕ → ℕ → ℕ → ℕ → ℕ
@@ -24,8 +23,8 @@ Outside a n i = (i < a) ⊎ (a + n ≤ i)
 
 -- e slots of n bytes from b on, and a slot at a that is none of them, all within len bytes
 pub record Sources (e a b d n len : ℕ) : Type 0 where
-  pub few : e ≤ capacity
-  pub small : len ≤ mostParityLength
+  pub few : e ≤ mostRows
+  pub small : len ≤ mostRowsLength
   pub target : a + n ≤ len
   pub source : (v : ℕ) → v < e → b + v * d + n ≤ len
   pub apart : (v q : ℕ) → v < e → q < n → Outside a n (b + v * d + q)
@@ -38,9 +37,9 @@ pub record Gathered (ws : List ℕ) (a b d n : ℕ) (xs ys : List ℕ) : Type 0 
 
 -- e slots of n bytes from a on, d apart, within len bytes
 pub record Spaced (e a d n len : ℕ) : Type 0 where
-  pub few : e ≤ capacity
-  pub small : len ≤ mostParityLength
-  pub step : d ≤ mostParityLength
+  pub few : e ≤ mostRows
+  pub small : len ≤ mostRowsLength
+  pub step : d ≤ mostRowsLength
   pub wide : n ≤ d
   pub room : (v : ℕ) → v < e → a + v * d + n ≤ len
 
@@ -56,7 +55,7 @@ pub record Cleared (c e a d n : ℕ) (xs ys : List ℕ) : Type 0 where
 
 -- the weights but the first, each times what its point is apart from the first point
 pub record SetApart (bs ws ws′ : List ℕ) : Type 0 where
-  pub long : length ws′ ≡ capacity
+  pub long : length ws′ ≡ mostRows
   pub at : (v : ℕ) → v + 1 < length bs → getD ws′ v 0 ≡ getD ws (v + 1) 0 ⊗ (getD bs (v + 1) 0 ⊕ getD bs 0 0)
 
 -- the first slot plus the others by their weights, times the inverse of the first weight; all else stays

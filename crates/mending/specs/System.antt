@@ -1,13 +1,13 @@
 -- What is solved: the lost data columns are the unknowns, and rows that survive the equations.
 use Prim.Native.Nat.{ℕ, _+_, _-_, _*_, _≤_, _<_}
 use mathlib.Core.Path.{_≡_}
-use mathlib.Core.Bool.{true}
+use mathlib.Core.Bool.{true, false}
 use mathlib.Core.Logic.{_⊎_}
 use mathlib.Core.List.{List, [], _∷_}
 use lib.ListN.{length, getD, take}
 use Rattle.stripe.specs.declared.Shape.{Shape}
-use Rattle.stripe.specs.Shape.{columns, mostParity}
-use Rattle.stripe.specs.Stripe.{runs, among, Ascending, plainRuns}
+use Rattle.stripe.specs.Shape.{columns, mostRows}
+use Rattle.stripe.specs.Stripe.{byPoints, runs, among, Ascending, plainRuns}
 use Rattle.stripe.proofs.Survivors.{firstRow, rowStep}
 use Rattle.stripe.proofs.Lost.{lostData, rowLost}
 use Rattle.mending.specs.declared.system.System.{System}
@@ -29,8 +29,8 @@ gone s p = lostData (s .k) (lostIn p)
 abbrev pub Counted : System → ℕ → ℕ → Type 0
 Counted p x j =
     (length (p .lost .at) ≡ capacity)
-    × ((p .count ≤ capacity)
-    × ((j < mostParity) × ((v : ℕ) → v < p .count → (x ≤ getD (p .lost .at) v 0) × (getD (p .lost .at) v 0 < 256))))
+    × ((p .count ≤ mostRows)
+    × ((j < mostRows) × ((v : ℕ) → v < p .count → (x ≤ getD (p .lost .at) v 0) × (getD (p .lost .at) v 0 < 256))))
 
 -- row j is solved by; is not
 abbrev pub Solver : System → ℕ → Type 0
@@ -43,11 +43,12 @@ Other p j = Solver p j → ⊥
 abbrev pub PivotOf : ℕ → ℕ → ℕ → ℕ → ℕ → Type 0
 PivotOf t e n i x = (x ≡ 0) ⊎ ((t ≡ 0) × ((0 < e) × ((e ≡ n) × (x ≡ i))))
 
--- the columns are the lost ones and the rows the first that survive; positions
+-- the stripe is by rows; the columns are the lost ones and the rows the first that survive; positions
 -- are counted from 0 on unless the stripe is plain and no row is lost
 pub record Posed (s : Shape) (p : System) : Type 0 where
+  pub rows : byPoints s ≡ false
   pub room : length (p .lost .at) ≡ capacity
-  pub few : p .lost .count ≤ capacity
+  pub few : p .lost .count ≤ mostRows
   pub ascend : Ascending 0 (columns s) (lostIn p)
   pub fits : length (lostIn p) ≤ s .r
   pub many : p .count ≤ p .lost .count

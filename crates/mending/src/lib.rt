@@ -16,7 +16,7 @@ use crate::write::write;
 use lost::Lost;
 use lost::list_refusal;
 use lost::lost_of;
-use stripe::MOST_PARITY_LENGTH;
+use stripe::MOST_ROWS_LENGTH;
 use stripe::Shape;
 use syndromes::syndromes;
 ghost use mathlib.Core.Path.{_≡_};
@@ -24,7 +24,7 @@ ghost use lib.ListN.{length};
 ghost use Rattle.stripe.specs.Shape.{parityLength, stripeLength};
 ghost use Rattle.mending.specs.Mend.{mendRefusal, Mended};
 ghost use Rattle.lost.specs.Lost.{lostList};
-ghost use Rattle.mending.specs.Restore.{Ready, Restores};
+ghost use Rattle.mending.specs.Restore.{Ready, ReadyRows, Restores};
 
 // The stripe with its lost columns mended, and 0; or a refusal, and the stripe stays: 1, 2, 5, 6 or 7 for what is lent, 8 where no
 // codeword agrees with all survivors.
@@ -57,9 +57,17 @@ fn mend_refusal(s: Shape, d: usize, list: &[u8]) -> u32
     list_refusal(n, r, list)
 }
 
-// 0 with the lost columns mended, or 8 and the stripe stays; the scratch is not much longer than r rows.
+// 0 with the lost columns mended, or 8 and the stripe stays.
 fn restore(s: Shape, lost: Lost, stripe: &mut [u8]) -> u32
     requires { ⌜ Ready s lost × (length (now stripe) ≡ stripeLength s) ⌝ }
+    ensures { λ v. ⌜ Restores s (lostList lost) (now (stripe .entry)) v (now (stripe .exit)) ⌝ }
+{
+    restore_by_rows(s, lost, stripe)
+}
+
+// The same by rows; the scratch is not much longer than r rows.
+fn restore_by_rows(s: Shape, lost: Lost, stripe: &mut [u8]) -> u32
+    requires { ⌜ ReadyRows s lost × (length (now stripe) ≡ stripeLength s) ⌝ }
     ensures { λ v. ⌜ Restores s (lostList lost) (now (stripe .entry)) v (now (stripe .exit)) ⌝ }
 {
     let n = s.r * s.l;
@@ -71,13 +79,13 @@ fn restore(s: Shape, lost: Lost, stripe: &mut [u8]) -> u32
         let mut slots = [0u8; 1536];
         return restore_rows(s, lost, stripe, &mut slots[..n]);
     }
-    let mut slots = [0u8; MOST_PARITY_LENGTH];
+    let mut slots = [0u8; MOST_ROWS_LENGTH];
     restore_rows(s, lost, stripe, &mut slots[..n])
 }
 
 // The same, in r rows: everything is judged there before a byte is written.
 fn restore_rows(s: Shape, lost: Lost, stripe: &mut [u8], slots: &mut [u8]) -> u32
-    requires { ⌜ Ready s lost × ((length (now stripe) ≡ stripeLength s) × (length (now slots) ≡ parityLength s)) ⌝ }
+    requires { ⌜ ReadyRows s lost × ((length (now stripe) ≡ stripeLength s) × (length (now slots) ≡ parityLength s)) ⌝ }
     ensures { λ v. ⌜ Restores s (lostList lost) (now (stripe .entry)) v (now (stripe .exit)) ⌝ }
 {
     let p = system_of(s, lost);

@@ -7,7 +7,7 @@ use stripe::Shape;
 ghost use mathlib.Core.Path.{_≡_};
 ghost use Prim.Native.Nat.{_+_, _*_, _≤_, _<_};
 ghost use lib.ListN.{length};
-ghost use Rattle.stripe.specs.Shape.{mostParity, mostParityLength};
+ghost use Rattle.stripe.specs.Shape.{mostRows, mostRowsLength};
 ghost use Rattle.stripe.specs.Stripe.{runs, runLength};
 ghost use Rattle.stripe.proofs.Errors.{points as powers};
 ghost use Rattle.mending.specs.Slots.{Sources, Gathered};
@@ -65,8 +65,8 @@ pub(crate) fn add_row(
 )
     requires { ⌜ Buffers s p (length (now slots))
         × ((x ≤ p .pivot)
-        × ((j < mostParity)
-        × ((off ≤ mostParityLength) × Sources (p .count) to (p .first * s .l + off) (p .step * s .l) n (length (now slots))))) ⌝ }
+        × ((j < mostRows)
+        × ((off ≤ mostRowsLength) × Sources (p .count) to (p .first * s .l + off) (p .step * s .l) n (length (now slots))))) ⌝ }
     ensures { λ _. ⌜ Gathered (powers j (less x (gone s p))) to (p .first * s .l + off) (p .step * s .l) n (now (slots .entry))
         (now (slots .exit)) ⌝ }
 {

@@ -9,7 +9,7 @@ ghost use mathlib.Core.Bool.{false};
 ghost use Prim.Native.Nat.{ℕ, _+_, _*_, _≤_, _<_};
 ghost use lib.ListN.{length, getD};
 ghost use Rattle.stripe.specs.Stripe.{among};
-ghost use Rattle.stripe.specs.Shape.{mostData, mostRows, mostParity};
+ghost use Rattle.stripe.specs.Shape.{mostData, mostRows};
 ghost use Rattle.lost.specs.Lost.{lostList, capacity};
 ghost use Rattle.syndromes.specs.Syndromes.{Says};
 ghost use Rattle.mending.specs.System.{Solver};
@@ -46,7 +46,7 @@ fn settle_row(s: Shape, p: System, j: usize, slots: &mut [u8]) -> bool
 
 // Whether row j is one of those solved by.
 fn solves(p: System, j: usize) -> bool
-    requires { ⌜ (p .count ≤ capacity) × ((p .first ≤ mostRows) × (p .step ≤ mostRows)) ⌝ }
+    requires { ⌜ (p .count ≤ mostRows) × ((p .first ≤ mostRows) × (p .step ≤ mostRows)) ⌝ }
     ensures { λ v. ⌜ Says v (Solver p j) ⌝ }
 {
     let mut v = 0;
@@ -61,7 +61,7 @@ fn solves(p: System, j: usize) -> bool
 
 // Whether row j is lost or zero.
 fn clean(s: Shape, p: System, j: usize, slots: &[u8]) -> bool
-    requires { ⌜ (p .lost .count ≤ capacity) × ((s .k ≤ mostData) × ((j < mostParity) × (j * s .l + s .l ≤ length (now slots)))) ⌝ }
+    requires { ⌜ (p .lost .count ≤ capacity) × ((s .k ≤ mostData) × ((j < mostRows) × (j * s .l + s .l ≤ length (now slots)))) ⌝ }
     ensures { λ v. ⌜ Says v
         (among (s .k + j) (lostList (p .lost)) ≡ false → (y : ℕ) → y < s .l → getD (now (slots .entry)) (j * s .l + y) 0 ≡ 0) ⌝ }
 {

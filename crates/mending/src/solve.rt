@@ -3,15 +3,15 @@
 use crate::gather::gather;
 use crate::scalars::product;
 use field::Gf;
-use lost::CAPACITY;
 use products::scale_all;
 use products::within::mix;
+use stripe::MOST_ROWS;
 ghost use mathlib.Core.Path.{_≡_};
 ghost use Prim.Native.Nat.{_≤_, _<_};
 ghost use lib.ListN.{length, getD};
 ghost use Rattle.field.specs.Field.{_⊕_, _⊗_};
 ghost use Rattle.mending.specs.Slots.{Spaced, Cleared, First, SetApart, Solved};
-ghost use Rattle.lost.specs.Lost.{capacity};
+ghost use Rattle.stripe.specs.Shape.{mostRows};
 
 // The values that have the sums, in place of the sums.
 pub(crate) fn solve_slots(
@@ -50,13 +50,13 @@ fn clear(c: u8, e: usize, slots: &mut [u8], at: usize, d: usize, n: usize)
 }
 
 // The weights but the first, each times what its point is apart from the first. Every entry is set, as in `row_weights`.
-fn set_apart(points: &[u8], weights: &[u8]) -> [u8; CAPACITY]
-    requires { ⌜ (length (now points) ≤ capacity) × (length (now weights) ≡ length (now points)) ⌝ }
+fn set_apart(points: &[u8], weights: &[u8]) -> [u8; MOST_ROWS]
+    requires { ⌜ (length (now points) ≤ mostRows) × (length (now weights) ≡ length (now points)) ⌝ }
     ensures { λ v. ⌜ SetApart (now (points .entry)) (now (weights .entry)) v ⌝ }
 {
-    let mut w = [0u8; CAPACITY];
+    let mut w = [0u8; MOST_ROWS];
     let mut v = 0;
-    while v < CAPACITY {
+    while v < MOST_ROWS {
         w[v] = weight_apart(points, weights, v + 1);
         v += 1;
     }

@@ -4,17 +4,17 @@ use crate::survivors::data_lost;
 use crate::survivors::first_row;
 use crate::survivors::row_step;
 use field::Gf;
-use lost::CAPACITY;
 use lost::Lost;
+use stripe::MOST_ROWS;
 use stripe::Shape;
 ghost use mathlib.Core.Path.{_≡_};
 ghost use Prim.Native.Nat.{_-_, _*_, _<_};
 ghost use lib.ListN.{length, getD, take};
 ghost use Rattle.stripe.proofs.Errors.{points};
 ghost use Rattle.field.specs.Field.{gpow};
-ghost use Rattle.mending.specs.Restore.{Ready};
+ghost use Rattle.mending.specs.Restore.{ReadyRows};
 ghost use Rattle.mending.specs.System.{PivotOf, Posed, Counted, less};
-ghost use Rattle.lost.specs.Lost.{capacity};
+ghost use Rattle.stripe.specs.Shape.{mostRows};
 
 // The first `count` lost positions are data columns, counted from `pivot` on; rows first, first + step, .. are solved by.
 pub struct System {
@@ -27,7 +27,7 @@ pub struct System {
 
 // The system for a stripe of which a record's columns are lost.
 pub(crate) fn system_of(s: Shape, lost: Lost) -> System
-    requires { ⌜ Ready s lost ⌝ }
+    requires { ⌜ ReadyRows s lost ⌝ }
     ensures { λ p. ⌜ (p .lost ≡ lost) × Posed s p ⌝ }
 {
     let k = s.k;
@@ -63,13 +63,13 @@ fn pivot_of(t: usize, count: usize, all: usize, first: usize) -> usize
 }
 
 // g^((i - x) * j) for each lost data column i. Every entry is set, whatever their number: so the compiler keeps the array in registers.
-pub(crate) fn row_weights(p: System, x: usize, j: usize) -> [u8; CAPACITY]
+pub(crate) fn row_weights(p: System, x: usize, j: usize) -> [u8; MOST_ROWS]
     requires { ⌜ Counted p x j ⌝ }
-    ensures { λ w. ⌜ (length w ≡ capacity) × (take (p .count) w ≡ points j (less x (take (p .count) (p .lost .at)))) ⌝ }
+    ensures { λ w. ⌜ (length w ≡ mostRows) × (take (p .count) w ≡ points j (less x (take (p .count) (p .lost .at)))) ⌝ }
 {
-    let mut w = [0u8; CAPACITY];
+    let mut w = [0u8; MOST_ROWS];
     let mut v = 0;
-    while v < CAPACITY {
+    while v < MOST_ROWS {
         w[v] = row_weight(p, x, j, v);
         v += 1;
     }

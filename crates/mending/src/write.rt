@@ -7,7 +7,6 @@ ghost use Prim.Native.Nat.{_≤_};
 ghost use lib.ListN.{length};
 ghost use Rattle.stripe.specs.Shape.{stripeLength, mostRows};
 ghost use Rattle.mending.specs.Scratch.{Buffers, slotRow, MendedBelow};
-ghost use Rattle.lost.specs.Lost.{capacity};
 
 // To each lost column the row of the slots that holds what it lacks.
 pub(crate) fn write(s: Shape, p: System, slots: &[u8], stripe: &mut [u8])
@@ -31,7 +30,7 @@ pub(crate) fn write(s: Shape, p: System, slots: &[u8], stripe: &mut [u8])
 
 // The row of the slots for lost column v, at position i.
 fn slot_row(s: Shape, p: System, v: usize, i: usize) -> usize
-    requires { ⌜ (p .first ≤ mostRows) × ((p .step ≤ mostRows) × ((v ≤ capacity) × (p .count ≤ v → s .k ≤ i))) ⌝ }
+    requires { ⌜ (p .first ≤ mostRows) × ((p .step ≤ mostRows) × ((v ≤ mostRows) × (p .count ≤ v → s .k ≤ i))) ⌝ }
     ensures { λ x. ⌜ x ≡ slotRow s p v i ⌝ }
 {
     if v < p.count {

@@ -9,8 +9,8 @@ use lib.Dec.{leb}
 use mir.Syntax.{w64}
 use mir.Val.{Fits}
 use Rattle.stripe.specs.declared.Shape.{Shape}
-use Rattle.stripe.specs.Shape.{shapeRefusal, mostData, mostRows, mostParity, mostColumns, mostLength, mostParityLength}
-use Rattle.stripe.proofs.Allowed.{Allowed, Prepared, allowed}
+use Rattle.stripe.specs.Shape.{shapeRefusal, mostData, mostRows, mostParity, mostColumns, mostLength, mostRowsLength, mostParityLength}
+use Rattle.stripe.proofs.Allowed.{Allowed, Prepared, allowed, rows-most, prepared-by-rows}
 use Rattle.plan.specs.declared.Kind.{Kind}
 use Rattle.plan.specs.declared.Kind.the-variants.{A, B, C}
 use Rattle.plan.specs.Plan.{foldRefusal, kindOf, columnsEach, bytesEach}
@@ -55,19 +55,20 @@ module _ (s : Shape) (passed : shapeRefusal s ≡ 0) where
   rest-small : s .t - s .r ≤ mostRows
   rest-small = omega (arith, mark-small)
 
-  pub new-product : (f : ℕ) → f ≤ mostRows → f * s .l ≤ mostRows * mostLength
+  pub new-product : (f : ℕ) → f ≤ mostParity → f * s .l ≤ mostParityLength
   new-product f h = mul-le-mul h length-small
 
   pub data-product : s .k * s .l ≤ mostData * mostLength
   data-product = mul-le-mul data-small length-small
 
-  pub first-small : s .r * (s .l / s .t) ≤ mostParityLength
-  first-small = mul-le-mul parity-small run-small
+  -- a prepared shape is by rows
+  pub first-small : Prepared s → s .r * (s .l / s .t) ≤ mostRowsLength
+  first-small p = mul-le-mul (rows-most s (allowed s passed) (prepared-by-rows s (allowed s passed) (let g = p .gains in omega arith))) run-small
 
-  pub part-small : (s .t - s .r) * (s .l / s .t) ≤ mostRows * mostLength
+  pub part-small : (s .t - s .r) * (s .l / s .t) ≤ mostRowsLength
   part-small = mul-le-mul rest-small run-small
 
-  pub parts-product : s .k * ((s .t - s .r) * (s .l / s .t)) ≤ mostData * (mostRows * mostLength)
+  pub parts-product : s .k * ((s .t - s .r) * (s .l / s .t)) ≤ mostData * mostRowsLength
   parts-product = mul-le-mul data-small part-small
 
   pub parity-product : s .r * s .l ≤ mostParityLength
@@ -86,7 +87,7 @@ module _ (s : Shape) (n f : ℕ) (passed : foldRefusal s n f ≡ 0) where
 
       go : (κ : Kind) → columnsEach κ s f ≤ mostColumns
       go A = omega (arith, able .new-most)
-      go B = omega (arith, a .data-most, a .parity-most)
+      go B = a .columns-most
       go C = omega (arith, a .data-most)
 
   pub columns-small : n * columnsEach (kindOf s f) s f ≤ 65790

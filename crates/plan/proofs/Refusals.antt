@@ -9,28 +9,31 @@ use Rattle.plan.specs.Plan.{foldRefusal, stripesAllowed, newAllowed, wid
 use Rattle.plan.proofs.Foldable.{all-passed}
 
 module _ (s : Shape) (n f : ℕ) where
+  -- the verdict on an allowed shape
+  abbrev rest : ℕ
+  rest = cond (stripesAllowed (s .k) (s .r) n) (cond (newAllowed (s .r) (s .t) f) 0 4) 3
+
   pub by-shape : (shapeRefusal s ≡ 0 → ⊥) → shapeRefusal s ≡ foldRefusal s n f
   unfolding foldRefusal
-  by-shape h =
-      sym (ap (λ (b : Bool). cond b (cond (stripesAllowed (s .k) n) (cond (newAllowed (s .t) f) 0 4) 3) (shapeRefusal s)) (ne-eqb (shapeRefusal s) 0 h))
+  by-shape h = sym (ap (λ (b : Bool). cond b rest (shapeRefusal s)) (ne-eqb (shapeRefusal s) 0 h))
 
-  by-rest : shapeRefusal s ≡ 0 → foldRefusal s n f ≡ cond (stripesAllowed (s .k) n) (cond (newAllowed (s .t) f) 0 4) 3
+  by-rest : shapeRefusal s ≡ 0 → foldRefusal s n f ≡ rest
   unfolding foldRefusal
-  by-rest e = ap (λ (b : Bool). cond b (cond (stripesAllowed (s .k) n) (cond (newAllowed (s .t) f) 0 4) 3) (shapeRefusal s)) (eq-eqb (shapeRefusal s) 0 e)
+  by-rest e = ap (λ (b : Bool). cond b rest (shapeRefusal s)) (eq-eqb (shapeRefusal s) 0 e)
 
-  pub by-stripes : shapeRefusal s ≡ 0 → stripesAllowed (s .k) n ≡ false → 3 ≡ foldRefusal s n f
-  by-stripes e h = sym (by-rest e ∙ ap (λ (b : Bool). cond b (cond (newAllowed (s .t) f) 0 4) 3) h)
+  pub by-stripes : shapeRefusal s ≡ 0 → stripesAllowed (s .k) (s .r) n ≡ false → 3 ≡ foldRefusal s n f
+  by-stripes e h = sym (by-rest e ∙ ap (λ (b : Bool). cond b (cond (newAllowed (s .r) (s .t) f) 0 4) 3) h)
 
-  pub by-new : shapeRefusal s ≡ 0 → stripesAllowed (s .k) n ≡ true → newAllowed (s .t) f ≡ false → 4 ≡ foldRefusal s n f
+  pub by-new : shapeRefusal s ≡ 0 → stripesAllowed (s .k) (s .r) n ≡ true → newAllowed (s .r) (s .t) f ≡ false → 4 ≡ foldRefusal s n f
   by-new e h g = sym (by-rest e ∙ ap₂ (λ (a b : Bool). cond a (cond b 0 4) 3) h g)
 
-  pub by-none : shapeRefusal s ≡ 0 → stripesAllowed (s .k) n ≡ true → newAllowed (s .t) f ≡ true → 0 ≡ foldRefusal s n f
+  pub by-none : shapeRefusal s ≡ 0 → stripesAllowed (s .k) (s .r) n ≡ true → newAllowed (s .r) (s .t) f ≡ true → 0 ≡ foldRefusal s n f
   by-none e h g = sym (by-rest e ∙ ap₂ (λ (a b : Bool). cond a (cond b 0 4) 3) h g)
 
   -- what is not refused has an allowed shape
   pub shape-passed : foldRefusal s n f ≡ 0 → shapeRefusal s ≡ 0
   unfolding foldRefusal
-  shape-passed e = all-passed (shapeRefusal s) (stripesAllowed (s .k) n) (newAllowed (s .t) f) e .0
+  shape-passed e = all-passed (shapeRefusal s) (stripesAllowed (s .k) (s .r) n) (newAllowed (s .r) (s .t) f) e .0
 
   -- what is refused reads nothing
   module _ (refused : foldRefusal s n f ≡ 0 → ⊥) where

@@ -6,24 +6,24 @@ use mathlib.Core.List.{List, [], _∷_, _++_}
 use lib.Dec.{leb, ltb, eqb}
 use lib.ListN.{getD}
 use Rattle.stripe.specs.declared.Shape.{Shape}
-use Rattle.stripe.specs.Shape.{shapeRefusal, mostData, mostRows, noShape}
+use Rattle.stripe.specs.Shape.{shapeRefusal, mostData, mostRows, mostPoints, noShape}
 use Rattle.stripe.specs.Stripe.{plainRuns}
 use Rattle.plan.specs.declared.Kind.{Kind}
 use Rattle.plan.specs.declared.Kind.the-variants.{A, B, C}
 use Rattle.plan.specs.declared.Span.{Span}
 
--- N is 2 to 255, with N*k <= 255
-abbrev pub stripesAllowed : ℕ → ℕ → Bool
-stripesAllowed k n = leb 2 n && leb n 255 && leb (n * k) mostData
+-- N is 2 to 255, with N*k <= 255; where r is above 3, with N*k+r <= 255
+abbrev pub stripesAllowed : ℕ → ℕ → ℕ → Bool
+stripesAllowed k r n = leb 2 n && leb n 255 && leb (n * k) mostData && (leb r mostRows || leb (n * k + r) mostPoints)
 
--- f is 1 to 3; if t is not 0, f = t
-abbrev pub newAllowed : ℕ → ℕ → Bool
-newAllowed t f = leb 1 f && leb f mostRows && (eqb t 0 || eqb f t)
+-- f is 1 to 3, and t if t is not 0; where r is above 3, f is r
+abbrev pub newAllowed : ℕ → ℕ → ℕ → Bool
+newAllowed r t f = cond (leb r mostRows) (leb 1 f && leb f mostRows && (eqb t 0 || eqb f t)) (eqb f r)
 
 -- the refusal of a fold: 1 and 2 for the shape, 3 for N, 4 for f, 0 for none
 unfoldable pub foldRefusal : Shape → ℕ → ℕ → ℕ
 foldRefusal s n f =
-    cond (eqb (shapeRefusal s) 0) (cond (stripesAllowed (s .k) n) (cond (newAllowed (s .t) f) 0 4) 3) (shapeRefusal s)
+    cond (eqb (shapeRefusal s) 0) (cond (stripesAllowed (s .k) (s .r) n) (cond (newAllowed (s .r) (s .t) f) 0 4) 3) (shapeRefusal s)
 
 -- A if t = 0, f <= r and f <= k; B if t = f, which for t other than 0 is the only f allowed; C if t = 0 otherwise
 unfoldable pub kindOf : Shape → ℕ → Kind

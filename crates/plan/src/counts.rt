@@ -2,7 +2,7 @@
 // each is this module's own, so that one is made only by counting a plan. Every function is total: what is refused reads nothing.
 ghost use mathlib.Core.Path.{_≡_};
 ghost use Prim.Native.Nat.{_+_, _≤_};
-ghost use Rattle.stripe.specs.Shape.{shapeRefusal, mostRows};
+ghost use Rattle.stripe.specs.Shape.{shapeRefusal, mostParity};
 ghost use lib.Dec.{eqb};
 ghost use Rattle.plan.specs.Plan.{kindOf, columnsEach, bytesEach, columnsRead, bytesRead};
 ghost use Rattle.plan.specs.Counts.{capped};
@@ -85,7 +85,7 @@ pub fn columns_read(s: Shape, stripes: usize, f: usize) -> Columns
 
 // How many bytes are read of each stripe.
 fn bytes_each(s: Shape, f: usize) -> Bytes
-    requires { ⌜ (shapeRefusal s ≡ 0) × (f ≤ mostRows) ⌝ }
+    requires { ⌜ (shapeRefusal s ≡ 0) × (f ≤ mostParity) ⌝ }
     ensures { λ v. ⌜ v .0 ≡ bytesEach (kindOf s f) s f ⌝ }
 {
     let k = s.k;

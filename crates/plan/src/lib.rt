@@ -2,12 +2,13 @@
 // module `counts` says how many. Every function is total: what is refused reads nothing.
 ghost use mathlib.Core.Path.{_≡_};
 ghost use Prim.Native.Nat.{_*_, _<_, _≤_};
-ghost use Rattle.stripe.specs.Shape.{shapeRefusal, mostData, mostColumns};
+ghost use Rattle.stripe.specs.Shape.{shapeRefusal, mostData, mostParity, mostColumns};
 ghost use Rattle.plan.specs.Plan.{foldRefusal, stripesAllowed, newAllowed, kindOf};
 ghost use Rattle.plan.specs.Plan.{columnsEach, columnsRead, columnSpan, spanAt, wideAnswer};
 use crate::counts::columns_each;
 use crate::counts::columns_read;
 use stripe::MOST_DATA;
+use stripe::MOST_POINTS;
 use stripe::MOST_ROWS;
 use stripe::Shape;
 
@@ -37,19 +38,19 @@ pub fn fold_refusal(s: Shape, stripes: usize, f: usize) -> u32
     if no != 0 {
         return no;
     }
-    if !stripes_allowed(s.k, stripes) {
+    if !stripes_allowed(s.k, s.r, stripes) {
         return 3;
     }
-    if !new_allowed(s.t, f) {
+    if !new_allowed(s.r, s.t, f) {
         return 4;
     }
     0
 }
 
-// Whether n is 2 to 255 with n * k at most 255.
-fn stripes_allowed(k: usize, n: usize) -> bool
-    requires { ⌜ k ≤ mostData ⌝ }
-    ensures { λ v. ⌜ v ≡ stripesAllowed k n ⌝ }
+// Whether n is 2 to 255 with n * k at most 255 and, if r is above 3, n * k + r at most 255.
+fn stripes_allowed(k: usize, r: usize, n: usize) -> bool
+    requires { ⌜ (k ≤ mostData) × (r ≤ mostParity) ⌝ }
+    ensures { λ v. ⌜ v ≡ stripesAllowed k r n ⌝ }
 {
     if n < 2 {
         return false;
@@ -57,13 +58,23 @@ fn stripes_allowed(k: usize, n: usize) -> bool
     if 255 < n {
         return false;
     }
-    n * k <= MOST_DATA
+    let wide = n * k;
+    if MOST_DATA < wide {
+        return false;
+    }
+    if r <= MOST_ROWS {
+        return true;
+    }
+    wide + r <= MOST_POINTS
 }
 
-// Whether f is 1 to 3 and, if t is not 0, f is t.
-fn new_allowed(t: usize, f: usize) -> bool
-    ensures { λ v. ⌜ v ≡ newAllowed t f ⌝ }
+// Whether f is 1 to 3 and, if t is not 0, f is t; if r is above 3, whether f is r.
+fn new_allowed(r: usize, t: usize, f: usize) -> bool
+    ensures { λ v. ⌜ v ≡ newAllowed r t f ⌝ }
 {
+    if MOST_ROWS < r {
+        return f == r;
+    }
     if f < 1 {
         return false;
     }

@@ -10,6 +10,8 @@ use Rattle.products.proofs.within.mix as mix
 use Rattle.products.proofs.within.mix.Reads as mix-reads
 use Rattle.products.proofs.scale_all as scale-all
 use Rattle.products.proofs.scale_all.Reads as scale-all-reads
+use Rattle.products.proofs.multiply as multiply
+use Rattle.products.proofs.multiply.Reads as multiply-reads
 
 pub scale-unique : (κs : Lfts 2) (a : ArgsD scale.signature κs) (r r′ : ResD scale.signature κs) (s s′ : AtExit scale.ended κs)
     → scale-reads.Post κs a r s → scale-reads.Post κs a r′ s′ → now (s .0) ≡ now (s′ .0)
@@ -22,3 +24,7 @@ mix-unique κs a r r′ s s′ p q = p ∙ sym q
 pub scale-all-unique : (κs : Lfts 1) (a : ArgsD scale-all.signature κs) (r r′ : ResD scale-all.signature κs) (s s′ : AtExit scale-all.ended κs)
     → scale-all-reads.Post κs a r s → scale-all-reads.Post κs a r′ s′ → now (s .0) ≡ now (s′ .0)
 scale-all-unique κs a r r′ s s′ p q = p ∙ sym q
+
+pub multiply-unique : (κs : Lfts 2) (a : ArgsD multiply.signature κs) (r r′ : ResD multiply.signature κs) (s s′ : AtExit multiply.ended κs)
+    → multiply-reads.Post κs a r s → multiply-reads.Post κs a r′ s′ → now (s .0) ≡ now (s′ .0)
+multiply-unique κs a r r′ s s′ p q = p ∙ sym q

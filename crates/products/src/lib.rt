@@ -49,6 +49,19 @@ pub fn scale_all(a: &mut [u8], c: u8)
     }
 }
 
+// At each place the product of the two.
+pub fn multiply(a: &mut [u8], d: &[u8])
+    ensures { λ _. ⌜ now (a .exit) ≡ onto (λ (x y : ℕ). x ⊗ y) (now (a .entry)) (now (d .entry)) ⌝ }
+{
+    let n = shorter(a.len(), d.len());
+    let mut q = 0;
+    while q < n {
+        let by = multiples_of(d[q]);
+        a[q] = product(by, a[q]);
+        q += 1;
+    }
+}
+
 // A byte times each power of two, by which a product is eight masks.
 struct Multiples {
     t0: u8,

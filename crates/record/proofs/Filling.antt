@@ -33,7 +33,7 @@ module _ (s : List ℕ) (sh : Shape) (m f e : ℕ) (law : Lawful sh m f e ≡ ve
   wide = ap (λ (v : Shape). columns v) (says .1)
 
   pub fill-columns-few : columns sh ≤ 258
-  fill-columns-few = let a = good .shape-allowed in omega (arith, wide, a .data-most, a .parity-most)
+  fill-columns-few = omega (arith, wide, good .shape-allowed .columns-most)
 
   pub fill-few : m ≤ 258
   fill-few = omega (arith, fill-columns-few, wide, says .2, good .few)

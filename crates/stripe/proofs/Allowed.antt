@@ -1,17 +1,18 @@
 -- What an allowed shape says, as plain facts about its numbers: each is read off from one test of `shapeRefusal`.
-use mathlib.Core.Path.{_≡_, refl, sym, ap, _∙_, subst}
-use mathlib.Core.Bool.{Bool, true, false, cond, _&&_, _||_}
+use mathlib.Core.Path.{_≡_, refl, sym, ap, ap₂, _∙_, subst}
+use mathlib.Core.Bool.{Bool, true, false, cond, _&&_, _||_, true≢false}
 use mathlib.Core.Logic.{_⊎_, inl, inr}
-use Prim.Native.Nat.{ℕ, zero, suc, _*_, _/_, _%_, _<_, _≤_}
+use Prim.Native.Nat.{ℕ, zero, suc, _+_, _*_, _/_, _%_, _<_, _≤_}
 use native.Mathlib.Nat.{mul-le-mul, mul-le-mul-right, div-one, one-mul, suc-ne-zero, div-add-mod}
 use native.Mathlib.Omega.{arith}
 use lib.Dec.{leb, ltb, eqb}
-use borrow.Author.Tests.{ltb-true, leb-true, eqb-true, eq-eqb, ne-eqb}
+use borrow.Author.Tests.{ltb-true, leb-true, eqb-true, eq-eqb, ne-eqb, lt-ltb, le-ltb, le-leb}
 use Rattle.field.proofs.Cases.{below-or-from, and-left, and-right}
 use Rattle.stripe.specs.declared.Shape.{Shape}
-use Rattle.stripe.specs.Shape.{shapeRefusal, dataAllowed, parityAllowed, markAllowed, lengthAllowed, dataLength, parityLength, stripeLength}
-use Rattle.stripe.specs.Shape.{mostData, mostRows, mostParity, mostColumns, mostLength, mostParityLength}
-use Rattle.stripe.specs.Stripe.{runs, runLength}
+use Rattle.stripe.specs.Shape.{shapeRefusal, dataAllowed, parityAllowed, pointsAllowed, markAllowed, lengthAllowed}
+use Rattle.stripe.specs.Shape.{columns, dataLength, parityLength, stripeLength}
+use Rattle.stripe.specs.Shape.{mostData, mostRows, mostParity, mostPoints, mostColumns, mostLength, mostParityLength}
+use Rattle.stripe.specs.Stripe.{runs, runLength, byPoints}
 
 -- the marks that are allowed beside 0: more than r, at most `mostRows` and at most k
 pub record Prepared (s : Shape) : Type 0 where
@@ -24,6 +25,8 @@ pub record Allowed (s : Shape) : Type 0 where
   pub data-most : s .k ≤ mostData
   pub parity-some : 1 ≤ s .r
   pub parity-most : s .r ≤ mostParity
+  pub points-most : (s .r ≤ mostRows) ⊎ (s .k + s .r ≤ mostPoints)
+  pub columns-most : columns s ≤ mostColumns
   pub mark : (s .t ≡ 0) ⊎ Prepared s
   pub length-some : 1 ≤ s .l
   pub length-most : s .l ≤ mostLength
@@ -102,14 +105,20 @@ prepared-cut : (s : Shape) → Prepared s → s .l % s .t ≡ 0 → Runs s
 prepared-cut s p e =
     cut-runs s (s .t) (prepared-runs s (omega arith)) (omega arith) (p .mark-most) (cut-exact (s .l) (s .t) e)
 
-all-facts : (s : Shape) → 1 ≤ s .k → s .k ≤ mostData → 1 ≤ s .r → s .r ≤ mostParity → (s .t ≡ 0) ⊎ Prepared s
-    → 1 ≤ s .l → s .l ≤ mostLength → Runs s → Allowed s
-all-facts s k1 k2 r1 r2 m l1 l2 c =
+few-columns : (s : Shape) → s .k ≤ mostData → (s .r ≤ mostRows) ⊎ (s .k + s .r ≤ mostPoints) → columns s ≤ mostColumns
+few-columns s h (inl few) = omega arith
+few-columns s h (inr few) = omega arith
+
+all-facts : (s : Shape) → 1 ≤ s .k → s .k ≤ mostData → 1 ≤ s .r → s .r ≤ mostParity → (s .r ≤ mostRows) ⊎ (s .k + s .r ≤ mostPoints)
+    → (s .t ≡ 0) ⊎ Prepared s → 1 ≤ s .l → s .l ≤ mostLength → Runs s → Allowed s
+all-facts s k1 k2 r1 r2 n m l1 l2 c =
     record {
       data-some = k1;
       data-most = k2;
       parity-some = r1;
       parity-most = r2;
+      points-most = n;
+      columns-most = few-columns s k2 n;
       mark = m;
       length-some = l1;
       length-most = l2;
@@ -120,16 +129,20 @@ all-facts s k1 k2 r1 r2 m l1 l2 c =
       cut = c .exact;
       data-length = mul-le-mul k2 l2;
       parity-length = mul-le-mul r2 l2;
-      stripe-length = mul-le-mul {n₂ = mostColumns} (omega arith) l2;
+      stripe-length = mul-le-mul {n₂ = mostColumns} (few-columns s k2 n) l2;
     }
 
 module _ (s : Shape) (passed : shapeRefusal s ≡ 0) where
-  tests : (dataAllowed (s .k) && parityAllowed (s .r) && markAllowed (s .k) (s .r) (s .t) ≡ true) × (lengthAllowed (s .t) (s .l) ≡ true)
+  tests : (dataAllowed (s .k) && parityAllowed (s .r) && pointsAllowed (s .k) (s .r) && markAllowed (s .k) (s .r) (s .t) ≡ true)
+      × (lengthAllowed (s .t) (s .l) ≡ true)
   unfolding shapeRefusal
   tests = both-passed _ _ passed
 
+  counts : dataAllowed (s .k) && parityAllowed (s .r) && pointsAllowed (s .k) (s .r) ≡ true
+  counts = and-left _ _ (tests .0)
+
   numbers : dataAllowed (s .k) && parityAllowed (s .r) ≡ true
-  numbers = and-left _ _ (tests .0)
+  numbers = and-left _ _ counts
 
   k-allowed : dataAllowed (s .k) ≡ true
   k-allowed = and-left _ _ numbers
@@ -137,8 +150,11 @@ module _ (s : Shape) (passed : shapeRefusal s ≡ 0) where
   r-allowed : parityAllowed (s .r) ≡ true
   r-allowed = and-right (dataAllowed (s .k)) _ numbers
 
+  n-allowed : pointsAllowed (s .k) (s .r) ≡ true
+  n-allowed = and-right (dataAllowed (s .k) && parityAllowed (s .r)) _ counts
+
   t-allowed : markAllowed (s .k) (s .r) (s .t) ≡ true
-  t-allowed = and-right (dataAllowed (s .k) && parityAllowed (s .r)) _ (tests .0)
+  t-allowed = and-right (dataAllowed (s .k) && parityAllowed (s .r) && pointsAllowed (s .k) (s .r)) _ (tests .0)
 
   l-bounds : leb 1 (s .l) && leb (s .l) mostLength ≡ true
   l-bounds = and-left _ _ (tests .1)
@@ -158,6 +174,13 @@ module _ (s : Shape) (passed : shapeRefusal s ≡ 0) where
             mark-data = leb-true _ _ (and-right (ltb (s .r) (s .t) && leb (s .t) mostRows) _ e);
           }
 
+  pointed : (s .r ≤ mostRows) ⊎ (s .k + s .r ≤ mostPoints)
+  pointed = go (or-cases _ _ n-allowed)
+    where
+      go : (leb (s .r) mostRows ≡ true) ⊎ (leb (s .k + s .r) mostPoints ≡ true) → (s .r ≤ mostRows) ⊎ (s .k + s .r ≤ mostPoints)
+      go (inl e) = inl (leb-true _ _ e)
+      go (inr e) = inr (leb-true _ _ e)
+
   cut-allowed : Runs s
   cut-allowed = go marked (or-cases _ _ l-divided)
     where
@@ -172,8 +195,60 @@ module _ (s : Shape) (passed : shapeRefusal s ≡ 0) where
       (leb-true _ _ (and-left _ _ k-allowed))
       (leb-true _ _ (and-right (leb 1 (s .k)) _ k-allowed))
       (leb-true _ _ (and-left _ _ r-allowed))
-      (leb-true _ _ (and-right (leb 1 (s .r)) _ r-allowed))
+      (let h = leb-true (s .r) mostRows (and-right (leb 1 (s .r)) _ r-allowed) in omega arith)
+      pointed
       marked
       (leb-true _ _ (and-left _ _ l-bounds))
       (leb-true _ _ (and-right (leb 1 (s .l)) _ l-bounds))
       cut-allowed
+
+-- ---- rows or points
+
+-- r up to 3 is by rows, and r from 4 to 16 by points
+pub few-by-rows : (s : Shape) → s .r ≤ mostRows → byPoints s ≡ false
+unfolding byPoints
+few-by-rows s h = ap (λ (b : Bool). b && leb (s .r) mostParity) (le-ltb mostRows (s .r) h)
+
+pub many-by-points : (s : Shape) → mostRows < s .r → s .r ≤ mostParity → byPoints s ≡ true
+unfolding byPoints
+many-by-points s h m = ap₂ _&&_ (lt-ltb mostRows (s .r) h) (le-leb (s .r) mostParity m)
+
+pub by-points-many : (s : Shape) → byPoints s ≡ true → (mostRows < s .r) × (s .r ≤ mostParity)
+unfolding byPoints
+by-points-many s e = (ltb-true _ _ (and-left _ _ e), leb-true _ _ (and-right (ltb mostRows (s .r)) _ e))
+
+-- of the allowed shapes those by rows have up to 3 parity columns; those by points have a point for each column and are plain
+pub rows-most : (s : Shape) → Allowed s → byPoints s ≡ false → s .r ≤ mostRows
+rows-most s a e = go (below-or-from mostRows (s .r))
+  where
+    go : (mostRows < s .r) ⊎ (s .r ≤ mostRows) → s .r ≤ mostRows
+    go (inl h) = absurd (true≢false (sym (many-by-points s h (a .parity-most)) ∙ e))
+    go (inr h) = h
+
+pub points-fit : (s : Shape) → Allowed s → byPoints s ≡ true → s .k + s .r ≤ mostPoints
+points-fit s a e = go (a .points-most)
+  where
+    go : (s .r ≤ mostRows) ⊎ (s .k + s .r ≤ mostPoints) → s .k + s .r ≤ mostPoints
+    go (inl h) = absurd (true≢false (sym e ∙ few-by-rows s h))
+    go (inr h) = h
+
+pub points-plain : (s : Shape) → Allowed s → byPoints s ≡ true → s .t ≡ 0
+points-plain s a e = go (a .mark)
+  where
+    go : (s .t ≡ 0) ⊎ Prepared s → s .t ≡ 0
+    go (inl z) = z
+    go (inr p) = absurd (true≢false (sym e ∙ few-by-rows s (let h = p in omega (arith, h .gains, h .mark-most))))
+
+pub prepared-by-rows : (s : Shape) → Allowed s → 0 < s .t → byPoints s ≡ false
+prepared-by-rows s a h = go (byPoints s) refl
+  where
+    go : (b : Bool) → byPoints s ≡ b → byPoints s ≡ false
+    go false e = e
+    go true e = absurd (zero-not-pos (points-plain s a e))
+      where
+        zero-not-pos : s .t ≡ 0 → ⊥
+        zero-not-pos z = omega arith
+
+-- no shape with r above 3 is allowed yet, so every allowed shape is by rows
+pub all-by-rows : (s : Shape) → shapeRefusal s ≡ 0 → byPoints s ≡ false
+all-by-rows s h = few-by-rows s (leb-true (s .r) mostRows (and-right (leb 1 (s .r)) _ (r-allowed s h)))

@@ -2,14 +2,16 @@
 -- same place of the run whose number is the parity column's.
 use mathlib.Core.Path.{_≡_, sym, ap, ap₂, _∙_}
 use mathlib.Core.Logic.{_⊎_, inl, inr}
+use mathlib.Core.Bool.{cond}
 use mathlib.Core.List.{List}
 use Prim.Native.Nat.{ℕ, _+_, _*_, _/_, _%_, _<_, _≤_}
 use lib.ListN.{getD}
 use Rattle.field.specs.Field.{_⊕_}
 use Rattle.field.specs.Row.{row}
 use Rattle.field.proofs.Cases.{below-or-from}
+use Rattle.points.specs.Points.{parityOf as solvedParity}
 use Rattle.stripe.specs.declared.Shape.{Shape}
-use Rattle.stripe.specs.Stripe.{rowAt, runLength, piggyback, parityByte, plainRuns}
+use Rattle.stripe.specs.Stripe.{byPoints, rowAt, runLength, piggyback, parityByte, plainRuns}
 use Rattle.stripe.proofs.Places.{across-agree, piggyback-none, piggyback-some}
 
 -- two lists of data agree at place p of every data column
@@ -31,4 +33,6 @@ piggyback-depends s xs ys i p h = go (below-or-from (p / runLength s) (plainRuns
 pub parity-depends : (s : Shape) (xs ys : List ℕ) (i p : ℕ) → AgreeAt s p xs ys
     → (plainRuns s ≤ p / runLength s → AgreeAt s (i * runLength s + p % runLength s) xs ys) → parityByte s xs i p ≡ parityByte s ys i p
 unfolding parityByte
-parity-depends s xs ys i p h g = ap₂ _⊕_ (row-depends s xs ys i p h) (piggyback-depends s xs ys i p g)
+parity-depends s xs ys i p h g =
+    ap₂ (λ (x y : ℕ). cond (byPoints s) x y) (ap (λ (ds : List ℕ). getD (solvedParity (s .r) ds) i 0) (across-agree xs ys (s .l) p (s .k) h))
+    (ap₂ _⊕_ (row-depends s xs ys i p h) (piggyback-depends s xs ys i p g))

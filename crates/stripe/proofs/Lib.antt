@@ -1,5 +1,6 @@
 pub mod Allowed
 pub mod Places
+pub mod Codewords
 pub mod Ascending
 pub mod Linear
 pub mod Depends

@@ -11,10 +11,16 @@ use Rattle.field.specs.Row.{row}
 use Rattle.field.proofs.Xor.{zero-add, sums}
 use Rattle.field.proofs.Bytes.{add-length, add-at, add-bytes}
 use Rattle.field.proofs.Rows.{row-add}
+use native.Mathlib.Omega.{arith}
+use Rattle.points.specs.Points.{parityOf as solvedParity}
+use Rattle.points.proofs.Parity.{parity-length as solved-length}
+use Rattle.points.proofs.Linear.{parity-add as solved-add}
 use Rattle.stripe.specs.declared.Shape.{Shape}
 use Rattle.stripe.specs.Shape.{dataLength, parityLength}
-use Rattle.stripe.specs.Stripe.{rowAt, runLength, piggyback, parityByte, parity, dataOf, Codeword, plainRuns}
-use Rattle.stripe.proofs.Places.{across-length, across-add, parity-at, parity-length, parity-exact, checks-codeword, codeword-checks, data-of-length}
+use Rattle.stripe.specs.Stripe.{across, byPoints, rowAt, runLength, piggyback, parityByte, parity, dataOf, Codeword, plainRuns}
+use Rattle.stripe.proofs.Allowed.{by-points-many}
+use Rattle.stripe.proofs.Places.{across-length, across-add, parity-at, parity-length, parity-exact, data-of-length}
+use Rattle.stripe.proofs.Codewords.{checks-codeword, codeword-checks}
 
 pub row-at-add : (s : Shape) (xs ys : List ℕ) (j p : ℕ) → length xs ≡ length ys → rowAt s (xs ⊞ ys) j p ≡ rowAt s xs j p ⊕ rowAt s ys j p
 unfolding rowAt
@@ -40,7 +46,23 @@ piggyback-add s xs ys i p e = go (ltb (p / runLength s) (plainRuns s))
 pub parity-byte-add : (s : Shape) (xs ys : List ℕ) (i p : ℕ) → length xs ≡ length ys
     → parityByte s (xs ⊞ ys) i p ≡ parityByte s xs i p ⊕ parityByte s ys i p
 unfolding parityByte
-parity-byte-add s xs ys i p e = ap₂ _⊕_ (row-at-add s xs ys i p e) (piggyback-add s xs ys i p e) ∙ simp sums
+parity-byte-add s xs ys i p e = go (byPoints s) refl
+  where
+    word : List ℕ → List ℕ
+    word ds = solvedParity (s .r) (across ds (s .l) p 0 (s .k))
+
+    solved : byPoints s ≡ true → getD (word (xs ⊞ ys)) i 0 ≡ getD (word xs) i 0 ⊕ getD (word ys) i 0
+    solved q =
+        ap (λ (ds : List ℕ). getD (solvedParity (s .r) ds) i 0) (across-add xs ys (s .l) p 0 (s .k) e)
+        ∙ ap (λ (ps : List ℕ). getD ps i 0)
+        (solved-add (s .r) _ _ (let h = by-points-many s q .1 in omega arith) (across-length xs (s .l) p 0 (s .k) ∙ sym (across-length ys (s .l) p 0 (s .k))))
+        ∙ add-at (word xs) (word ys) i (solved-length (s .r) _ ∙ sym (solved-length (s .r) _))
+
+    go : (b : Bool) → byPoints s ≡ b
+        → cond b (getD (word (xs ⊞ ys)) i 0) (rowAt s (xs ⊞ ys) i p ⊕ piggyback s (xs ⊞ ys) i p)
+        ≡ cond b (getD (word xs) i 0) (rowAt s xs i p ⊕ piggyback s xs i p) ⊕ cond b (getD (word ys) i 0) (rowAt s ys i p ⊕ piggyback s ys i p)
+    go true q = solved q
+    go false q = ap₂ _⊕_ (row-at-add s xs ys i p e) (piggyback-add s xs ys i p e) ∙ simp sums
 
 pub parity-add : (s : Shape) (xs ys : List ℕ) → length xs ≡ length ys → parity s (xs ⊞ ys) ≡ parity s xs ⊞ parity s ys
 parity-add s xs ys e = sym (parity-exact s (xs ⊞ ys) (parity s xs ⊞ parity s ys) long at)

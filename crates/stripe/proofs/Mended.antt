@@ -1,4 +1,4 @@
--- The mended stripe: at each place the lost data bytes are solved for, first in the runs below r, whose parity is the rows alone, then in
+-- The mended stripe, by rows: at each place the lost data bytes are solved for, first in the runs below r, whose parity is the rows alone, then in
 -- the others, where what is added to the rows comes from those runs. It is a codeword, and the only one that can agree with all survivors;
 -- it does exactly when the surviving rows that were not solved by hold too.
 use mathlib.Core.Path.{_≡_, sym, ap, ap₂, _∙_, subst}
@@ -20,11 +20,13 @@ use Rattle.field.proofs.Rows.{row-lt}
 use Rattle.field.proofs.Cases.{below-or-from}
 use Rattle.stripe.specs.declared.Shape.{Shape}
 use Rattle.stripe.specs.Shape.{columns, dataLength}
-use Rattle.stripe.specs.Stripe.{across, rowAt, runLength, parityByte, parity, dataOf, Codeword, among, Ascending, Agree, plainRuns}
-use Rattle.stripe.proofs.Allowed.{Allowed}
+use Rattle.stripe.specs.Stripe.{byPoints, across, rowAt, runLength, parityByte, parity, dataOf, Codeword, among, Ascending, Agree, plainRuns}
+use Rattle.stripe.proofs.Allowed.{Allowed, rows-most}
 use Rattle.stripe.proofs.Places.{place-lt, place-column, place-byte, by-places, across-length, across-first}
-use Rattle.stripe.proofs.Places.{across-bytes, parity-below, parity-from, row-at-stripe, codeword-checks, data-of-length}
-use Rattle.stripe.proofs.Places.{encoded-data, encoded-codeword, codeword-encoded, run-place-lt, run-place-run}
+use Rattle.stripe.proofs.Places.{across-bytes, parity-below, parity-from, row-at-stripe, data-of-length}
+use Rattle.stripe.proofs.Codewords.{codeword-checks}
+use Rattle.stripe.proofs.Places.{run-place-lt, run-place-run}
+use Rattle.stripe.proofs.Codewords.{encoded-data, encoded-codeword, codeword-encoded}
 use Rattle.stripe.proofs.Errors.{AgreeOff}
 use Rattle.stripe.proofs.Word.{SurvivingRows, wordMended, word-mended-length, word-mended-bytes, word-mended-agrees, word-only, word-completed}
 
@@ -125,42 +127,43 @@ add-right x y z e = undo ∙ ap (λ (w : ℕ). w ⊕ z) e
     undo = simp sums
 
 -- its parity byte, in a run below r and in the others
-pub mended-parity-below : (s : Shape) (es xs : List ℕ) (i p : ℕ) → p < s .l → p / runLength s < plainRuns s
+pub mended-parity-below : (s : Shape) (es xs : List ℕ) (i p : ℕ) → byPoints s ≡ false → p < s .l → p / runLength s < plainRuns s
     → parityByte s (dataMended s es xs) i p ≡ row i (wordAt s es xs p)
-mended-parity-below s es xs i p hp h = parity-below s (dataMended s es xs) i p h ∙ mended-row-at s es xs i p hp
+mended-parity-below s es xs i p rows hp h = parity-below s (dataMended s es xs) i p rows h ∙ mended-row-at s es xs i p hp
 
-pub mended-parity-from : (s : Shape) (es xs : List ℕ) (i p : ℕ) → Allowed s → i < s .r → p < s .l → plainRuns s ≤ p / runLength s
+pub mended-parity-from : (s : Shape) (es xs : List ℕ) (i p : ℕ) → byPoints s ≡ false → Allowed s → i < s .r → p < s .l → plainRuns s ≤ p / runLength s
     → parityByte s (dataMended s es xs) i p
     ≡ row i (wordAt s es xs p) ⊕ row (p / runLength s) (wordBelow s es xs (i * runLength s + p % runLength s))
-mended-parity-from s es xs i p a hi hp h =
-    parity-from s (dataMended s es xs) i p h
+mended-parity-from s es xs i p rows a hi hp h =
+    parity-from s (dataMended s es xs) i p rows h
     ∙ ap₂ _⊕_ (mended-row-at s es xs i p hp)
     (mended-row-at s es xs (p / runLength s) (i * runLength s + p % runLength s) (run-place-lt s i p a hi hp h)
     ∙ ap (row (p / runLength s)) (word-below s es xs _ (subst (λ (z : ℕ). z < plainRuns s) (sym (run-place-run s i p a)) hi)))
 
 -- it is the one that the stripe has exactly when the row is the one wanted
-pub parity-wanted : (s : Shape) (es xs : List ℕ) (i p : ℕ) → Allowed s → i < s .r → p < s .l
+pub parity-wanted : (s : Shape) (es xs : List ℕ) (i p : ℕ) → byPoints s ≡ false → Allowed s → i < s .r → p < s .l
     → (row i (wordAt s es xs p) ≡ wanted s es xs p i) ↔ (parityByte s (dataMended s es xs) i p ≡ checkAt s xs p i)
-parity-wanted s es xs i p a hi hp = go (below-or-from (p / runLength s) (plainRuns s))
+parity-wanted s es xs i p rows a hi hp = go (below-or-from (p / runLength s) (plainRuns s))
   where
     go : (p / runLength s < plainRuns s) ⊎ (plainRuns s ≤ p / runLength s)
         → (row i (wordAt s es xs p) ≡ wanted s es xs p i) ↔ (parityByte s (dataMended s es xs) i p ≡ checkAt s xs p i)
     go (inl h) = (
-      λ e. mended-parity-below s es xs i p hp h ∙ e ∙ wanted-below s es xs p i h,
-      λ e. sym (mended-parity-below s es xs i p hp h) ∙ e ∙ sym (wanted-below s es xs p i h),
+      λ e. mended-parity-below s es xs i p rows hp h ∙ e ∙ wanted-below s es xs p i h,
+      λ e. sym (mended-parity-below s es xs i p rows hp h) ∙ e ∙ sym (wanted-below s es xs p i h),
     )
     go (inr h) = (
-      λ e. mended-parity-from s es xs i p a hi hp h ∙ cancel-right _ _ _ (e ∙ wanted-from s es xs p i h),
-      λ e. add-right _ _ _ (sym (mended-parity-from s es xs i p a hi hp h) ∙ e) ∙ sym (wanted-from s es xs p i h),
+      λ e. mended-parity-from s es xs i p rows a hi hp h ∙ cancel-right _ _ _ (e ∙ wanted-from s es xs p i h),
+      λ e. add-right _ _ _ (sym (mended-parity-from s es xs i p rows a hi hp h) ∙ e) ∙ sym (wanted-from s es xs p i h),
     )
 
 -- ---- the theorems
 
-module _ (s : Shape) (a : Allowed s) (es : List ℕ) (asc : Ascending 0 (columns s) es) (few : length es ≤ s .r) (xs : List ℕ) (bytes : Bytes xs) where
+module _ (s : Shape) (rows : byPoints s ≡ false) (a : Allowed s) (es : List ℕ) (asc : Ascending 0 (columns s) es) (few : length es ≤ s .r)
+    (xs : List ℕ) (bytes : Bytes xs) where
   word-bytes : (p : ℕ) → Bytes (wordAt s es xs p)
   unfolding wordAt
   word-bytes p =
-      word-mended-bytes (s .k) (s .r) es (a .data-most) (a .parity-most) asc few (dataAt s xs p) (across-length xs (s .l) p 0 (s .k)) _
+      word-mended-bytes (s .k) (s .r) es (a .data-most) (rows-most s a rows) asc few (dataAt s xs p) (across-length xs (s .l) p 0 (s .k)) _
       (across-bytes xs (s .l) p 0 (s .k) bytes)
 
   data-mended-bytes : Bytes (dataMended s es xs)
@@ -176,7 +179,7 @@ module _ (s : Shape) (a : Allowed s) (es : List ℕ) (asc : Ascending 0 (columns
   unfolding stripeMended wordAt
   mended-data c p hc hp n =
       sym (across-first xs (s .l) p (s .k) c hc)
-      ∙ word-mended-agrees (s .k) (s .r) es (a .data-most) (a .parity-most) asc few (dataAt s xs p) (across-length xs (s .l) p 0 (s .k)) _ c hc n
+      ∙ word-mended-agrees (s .k) (s .r) es (a .data-most) (rows-most s a rows) asc few (dataAt s xs p) (across-length xs (s .l) p 0 (s .k)) _ c hc n
       ∙ sym (data-mended-at s es xs c p hc hp)
       ∙ sym (List·getD-append (dataMended s es xs) _ 0 (c * s .l + p) (subst (λ (z : ℕ). c * s .l + p < z) (sym (data-mended-length s es xs)) (place-lt hc hp)))
 
@@ -192,7 +195,7 @@ module _ (s : Shape) (a : Allowed s) (es : List ℕ) (asc : Ascending 0 (columns
     where
       there : Agree s es xs (stripeMended s es xs) → (p : ℕ) → p < s .l → SurvivingRows (s .k) (s .r) es (wanted s es xs p) (wordAt s es xs p)
       there h p hp j hj n =
-          parity-wanted s es xs j p a hj hp .1 (sym (mended-check j p hj hp) ∙ sym (h (s .k + j) p (omega arith) hp n))
+          parity-wanted s es xs j p rows a hj hp .1 (sym (mended-check j p hj hp) ∙ sym (h (s .k + j) p (omega arith) hp n))
 
       back : ((p : ℕ) → p < s .l → SurvivingRows (s .k) (s .r) es (wanted s es xs p) (wordAt s es xs p)) → Agree s es xs (stripeMended s es xs)
       back h c p hc hp n = go (below-or-from c (s .k))
@@ -204,7 +207,7 @@ module _ (s : Shape) (a : Allowed s) (es : List ℕ) (asc : Ascending 0 (columns
               let e : c ≡ s .k + i = omega arith in
               let hi : i < s .r = omega arith in
               subst (λ (z : ℕ). getD xs (z * s .l + p) 0 ≡ getD (stripeMended s es xs) (z * s .l + p) 0) (sym e)
-              (sym (mended-check i p hi hp ∙ parity-wanted s es xs i p a hi hp .0 (h p hp i hi (subst (λ (z : ℕ). among z es ≡ false) e n))))
+              (sym (mended-check i p hi hp ∙ parity-wanted s es xs i p rows a hi hp .0 (h p hp i hi (subst (λ (z : ℕ). among z es ≡ false) e n))))
 
   -- with r lost it always does
   pub mended-full : length es ≡ s .r → Agree s es xs (stripeMended s es xs)
@@ -212,7 +215,7 @@ module _ (s : Shape) (a : Allowed s) (es : List ℕ) (asc : Ascending 0 (columns
   mended-full full =
       mended-agrees-exactly .1
       (λ p hp.
-      word-completed (s .k) (s .r) es (a .data-most) (a .parity-most) asc few (dataAt s xs p) (across-length xs (s .l) p 0 (s .k)) (wanted s es xs p) full
+      word-completed (s .k) (s .r) es (a .data-most) (rows-most s a rows) asc few (dataAt s xs p) (across-length xs (s .l) p 0 (s .k)) (wanted s es xs p) full
       (λ j. wanted-lt s es xs p j bytes))
 
   -- a codeword that agrees with all survivors is the mended stripe
@@ -225,17 +228,17 @@ module _ (s : Shape) (a : Allowed s) (es : List ℕ) (asc : Ascending 0 (columns
     same-check p j hp hj n = agree (s .k + j) p (omega arith) hp n ∙ codeword-checks s ys w j p hj hp
 
     only-word : (t : ℕ → ℕ) (p : ℕ) → p < s .l → SurvivingRows (s .k) (s .r) es t (dataAt s ys p) → dataAt s ys p ≡ wordMended (s .k) es (dataAt s xs p) t
-    only-word t p hp rows =
-        word-only (s .k) (s .r) es (a .data-most) (a .parity-most) asc few (dataAt s xs p) (across-length xs (s .l) p 0 (s .k)) t
+    only-word t p hp h =
+        word-only (s .k) (s .r) es (a .data-most) (rows-most s a rows) asc few (dataAt s xs p) (across-length xs (s .l) p 0 (s .k)) t
         (dataAt s ys p) (across-length ys (s .l) p 0 (s .k)) (across-bytes xs (s .l) p 0 (s .k) bytes) (across-bytes ys (s .l) p 0 (s .k) (w .bytes))
-        (same-data p hp) rows
+        (same-data p hp) h
 
     -- in a run below r
     only-below : (p : ℕ) → p < s .l → p / runLength s < plainRuns s → dataAt s ys p ≡ wordBelow s es xs p
     unfolding wordBelow
     only-below p hp h =
         only-word (checkAt s xs p) p hp
-        (λ j hj n. sym (row-at-stripe s ys j p hp) ∙ sym (parity-below s (dataOf s ys) j p h) ∙ sym (same-check p j hp hj n))
+        (λ j hj n. sym (row-at-stripe s ys j p hp) ∙ sym (parity-below s (dataOf s ys) j p rows h) ∙ sym (same-check p j hp hj n))
 
     -- in any run
     only-at : (p : ℕ) → p < s .l → dataAt s ys p ≡ wordAt s es xs p
@@ -245,10 +248,10 @@ module _ (s : Shape) (a : Allowed s) (es : List ℕ) (asc : Ascending 0 (columns
         go : (j : ℕ) → j < s .r → among (s .k + j) es ≡ false → (p / runLength s < plainRuns s) ⊎ (plainRuns s ≤ p / runLength s)
             → row j (dataAt s ys p) ≡ wanted s es xs p j
         go j hj n (inl h) =
-            sym (row-at-stripe s ys j p hp) ∙ sym (parity-below s (dataOf s ys) j p h) ∙ sym (same-check p j hp hj n)
+            sym (row-at-stripe s ys j p hp) ∙ sym (parity-below s (dataOf s ys) j p rows h) ∙ sym (same-check p j hp hj n)
             ∙ sym (wanted-below s es xs p j h)
         go j hj n (inr h) =
-            add-right _ _ _ (sym (ap₂ _⊕_ (row-at-stripe s ys j p hp) from) ∙ sym (parity-from s (dataOf s ys) j p h) ∙ sym (same-check p j hp hj n))
+            add-right _ _ _ (sym (ap₂ _⊕_ (row-at-stripe s ys j p hp) from) ∙ sym (parity-from s (dataOf s ys) j p rows h) ∙ sym (same-check p j hp hj n))
             ∙ sym (wanted-from s es xs p j h)
           where
             q : ℕ

@@ -1,5 +1,4 @@
--- Places: byte p of the column at position c stands at c * L + p. What `across` reads, what parity holds at each place, and
--- codewords by their bytes.
+-- Places: byte p of the column at position c stands at c * L + p. What `across` reads, and what parity holds at each place.
 use mathlib.Core.Path.{_≡_, refl, sym, ap, ap₂, _∙_, subst}
 use mathlib.Core.Bool.{Bool, true, false, cond}
 use mathlib.Core.List.{List, _∷_, _++_}
@@ -17,9 +16,11 @@ use Rattle.field.specs.Row.{row}
 use Rattle.field.proofs.Xor.{add-lt, add-zero}
 use Rattle.field.proofs.Bytes.{tabulate-length, tabulate-at, tabulate-bytes, add-at, append-bytes}
 use Rattle.field.proofs.Rows.{row-lt}
+use Rattle.points.specs.Points.{parityOf as solvedParity}
+use Rattle.points.proofs.Parity.{parity-bytes as solved-parity-bytes}
 use Rattle.stripe.specs.declared.Shape.{Shape}
 use Rattle.stripe.specs.Shape.{dataLength, parityLength, stripeLength}
-use Rattle.stripe.specs.Stripe.{across, rowAt, runs, runLength, piggyback, parityByte, parity, dataOf, parityOf, Codeword, plainRuns}
+use Rattle.stripe.specs.Stripe.{across, rowAt, runs, runLength, piggyback, byPoints, parityByte, parity, dataOf, parityOf, plainRuns}
 use Rattle.stripe.proofs.Allowed.{Allowed, plain-run-length}
 
 -- ---- the numbers of places
@@ -128,27 +129,41 @@ piggyback-lt s ds i p = go (ltb (p / runLength s) (plainRuns s))
     go true = lit< tt
     go false = row-at-lt s ds (p / runLength s) (i * runLength s + p % runLength s)
 
--- parity in a run below r
-pub parity-below : (s : Shape) (ds : List ℕ) (i p : ℕ) → p / runLength s < plainRuns s → parityByte s ds i p ≡ rowAt s ds i p
+-- parity by rows, and by check equations
+pub parity-by-rows : (s : Shape) (ds : List ℕ) (i p : ℕ) → byPoints s ≡ false → parityByte s ds i p ≡ rowAt s ds i p ⊕ piggyback s ds i p
 unfolding parityByte
-parity-below s ds i p h = ap (λ (x : ℕ). rowAt s ds i p ⊕ x) (piggyback-none s ds i p h) ∙ add-zero _
+parity-by-rows s ds i p e =
+    ap (λ (b : Bool). cond b (getD (solvedParity (s .r) (across ds (s .l) p 0 (s .k))) i 0) (rowAt s ds i p ⊕ piggyback s ds i p)) e
+
+pub parity-by-points : (s : Shape) (ds : List ℕ) (i p : ℕ) → byPoints s ≡ true
+    → parityByte s ds i p ≡ getD (solvedParity (s .r) (across ds (s .l) p 0 (s .k))) i 0
+unfolding parityByte
+parity-by-points s ds i p e =
+    ap (λ (b : Bool). cond b (getD (solvedParity (s .r) (across ds (s .l) p 0 (s .k))) i 0) (rowAt s ds i p ⊕ piggyback s ds i p)) e
+
+-- by rows, parity in a run below r
+pub parity-below : (s : Shape) (ds : List ℕ) (i p : ℕ) → byPoints s ≡ false → p / runLength s < plainRuns s → parityByte s ds i p ≡ rowAt s ds i p
+parity-below s ds i p e h = parity-by-rows s ds i p e ∙ ap (λ (x : ℕ). rowAt s ds i p ⊕ x) (piggyback-none s ds i p h) ∙ add-zero _
 
 -- parity in a run from r on
-pub parity-from : (s : Shape) (ds : List ℕ) (i p : ℕ) → plainRuns s ≤ p / runLength s
+pub parity-from : (s : Shape) (ds : List ℕ) (i p : ℕ) → byPoints s ≡ false → plainRuns s ≤ p / runLength s
     → parityByte s ds i p ≡ rowAt s ds i p ⊕ rowAt s ds (p / runLength s) (i * runLength s + p % runLength s)
-unfolding parityByte
-parity-from s ds i p h = ap (λ (x : ℕ). rowAt s ds i p ⊕ x) (piggyback-some s ds i p h)
+parity-from s ds i p e h = parity-by-rows s ds i p e ∙ ap (λ (x : ℕ). rowAt s ds i p ⊕ x) (piggyback-some s ds i p h)
 
 -- parity of a plain stripe
-pub plain-parity : (s : Shape) (ds : List ℕ) (i p : ℕ) → Allowed s → s .t ≡ 0 → p < s .l → parityByte s ds i p ≡ rowAt s ds i p
-plain-parity s ds i p a e h = parity-below s ds i p (subst (λ (z : ℕ). z < plainRuns s) (sym first) (a .parity-some))
+pub plain-parity : (s : Shape) (ds : List ℕ) (i p : ℕ) → Allowed s → byPoints s ≡ false → s .t ≡ 0 → p < s .l → parityByte s ds i p ≡ rowAt s ds i p
+plain-parity s ds i p a b e h = parity-below s ds i p b (subst (λ (z : ℕ). z < plainRuns s) (sym first) (a .parity-some))
   where
     first : p / runLength s ≡ 0
     first = ap (λ (z : ℕ). p / z) (plain-run-length s e) ∙ div-eq-of-lt h
 
 pub parity-byte-lt : (s : Shape) (ds : List ℕ) (i p : ℕ) → parityByte s ds i p < 256
 unfolding parityByte
-parity-byte-lt s ds i p = add-lt 8 _ _ (row-at-lt s ds i p) (piggyback-lt s ds i p)
+parity-byte-lt s ds i p = go (byPoints s)
+  where
+    go : (b : Bool) → cond b (getD (solvedParity (s .r) (across ds (s .l) p 0 (s .k))) i 0) (rowAt s ds i p ⊕ piggyback s ds i p) < 256
+    go true = solved-parity-bytes (s .r) (across ds (s .l) p 0 (s .k)) i
+    go false = add-lt 8 _ _ (row-at-lt s ds i p) (piggyback-lt s ds i p)
 
 pub parity-length : (s : Shape) (ds : List ℕ) → length (parity s ds) ≡ parityLength s
 unfolding parity
@@ -169,11 +184,7 @@ pub parity-exact : (s : Shape) (ds ps : List ℕ) → length ps ≡ parityLength
 parity-exact s ds ps e h =
     by-places (s .r) (s .l) ps (parity s ds) e (parity-length s ds) (λ i p hi hp. h i p hi hp ∙ sym (parity-at s ds i p hi hp))
 
--- ---- codewords by their bytes
-
--- each parity byte is what the data say
-abbrev pub Checks : Shape → List ℕ → Type 0
-Checks s xs = (i p : ℕ) → i < s .r → p < s .l → getD xs ((s .k + i) * s .l + p) 0 ≡ parityByte s (dataOf s xs) i p
+-- ---- the data and the parity of a stripe
 
 -- row j of the data of a stripe
 pub row-at-stripe : (s : Shape) (xs : List ℕ) (j p : ℕ) → p < s .l → rowAt s (dataOf s xs) j p ≡ row j (across xs (s .l) p 0 (s .k))
@@ -189,50 +200,6 @@ parity-of-length s xs e = length-drop (dataLength s) xs ∙ omega arith
 
 pub data-of-length : (s : Shape) (xs : List ℕ) → length xs ≡ stripeLength s → length (dataOf s xs) ≡ dataLength s
 data-of-length s xs e = length-take-le (dataLength s) xs (omega arith)
-
--- what a codeword is made of, and what it says of its parity: all else about codewords comes from these two
-pub codeword-of : (s : Shape) (xs : List ℕ) → Bytes xs → length xs ≡ stripeLength s → parityOf s xs ≡ parity s (dataOf s xs) → Codeword s xs
-codeword-of s xs b e h = record { bytes = b; long = e; exact = h }
-
-pub codeword-parity : (s : Shape) (xs : List ℕ) → Codeword s xs → parityOf s xs ≡ parity s (dataOf s xs)
-codeword-parity s xs w = w .exact
-
-pub codeword-checks : (s : Shape) (xs : List ℕ) → Codeword s xs → Checks s xs
-codeword-checks s xs w i p hi hp =
-    sym (parity-of-at s xs i p)
-    ∙ ap (λ (ps : List ℕ). getD ps (i * s .l + p) 0) (codeword-parity s xs w)
-    ∙ parity-at s (dataOf s xs) i p hi hp
-
-pub checks-codeword : (s : Shape) (xs : List ℕ) → Bytes xs → length xs ≡ stripeLength s → Checks s xs → Codeword s xs
-checks-codeword s xs b e h =
-    codeword-of s xs b e
-    (parity-exact s (dataOf s xs) (parityOf s xs) (parity-of-length s xs e) (λ i p hi hp. parity-of-at s xs i p ∙ h i p hi hp))
-
--- ---- data followed by their parity
-
-pub encoded-data : (s : Shape) (ds ps : List ℕ) → length ds ≡ dataLength s → dataOf s (ds ++ ps) ≡ ds
-encoded-data s ds ps e = take-at ds ps (dataLength s) e
-
-pub encoded-parity : (s : Shape) (ds ps : List ℕ) → length ds ≡ dataLength s → parityOf s (ds ++ ps) ≡ ps
-encoded-parity s ds ps e = drop-at ds ps (dataLength s) e
-
-pub joined-codeword : (s : Shape) (ds ps : List ℕ) → Bytes ds → Bytes ps → length ds ≡ dataLength s → ps ≡ parity s ds → Codeword s (ds ++ ps)
-joined-codeword s ds ps bd bp e h =
-    codeword-of s (ds ++ ps) (append-bytes ds ps bd bp)
-    (length-append ds ps ∙ ap₂ _+_ e (ap length h ∙ parity-length s ds) ∙ omega arith)
-    (encoded-parity s ds ps e ∙ h ∙ ap (parity s) (sym (encoded-data s ds ps e)))
-
-pub codeword-joined : (s : Shape) (ds ps : List ℕ) → length ds ≡ dataLength s → Codeword s (ds ++ ps) → ps ≡ parity s ds
-codeword-joined s ds ps e w =
-    sym (encoded-parity s ds ps e) ∙ codeword-parity s (ds ++ ps) w ∙ ap (parity s) (encoded-data s ds ps e)
-
-pub encoded-codeword : (s : Shape) (ds : List ℕ) → Bytes ds → length ds ≡ dataLength s → Codeword s (ds ++ parity s ds)
-encoded-codeword s ds b e = joined-codeword s ds (parity s ds) b (parity-bytes s ds) e refl
-
--- a codeword is its data followed by their parity
-pub codeword-encoded : (s : Shape) (xs : List ℕ) → Codeword s xs → xs ≡ dataOf s xs ++ parity s (dataOf s xs)
-codeword-encoded s xs w =
-    sym (take-append-drop (dataLength s) xs) ∙ ap (λ (ps : List ℕ). dataOf s xs ++ ps) (codeword-parity s xs w)
 
 -- ---- the places that a piggyback is taken from
 

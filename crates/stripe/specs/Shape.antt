@@ -12,9 +12,13 @@ mostData = 255
 abbrev pub mostRows : ℕ
 mostRows = 3
 
--- the most parity columns of a stripe
+-- the most parity columns of a stripe: beyond `mostRows` they are given by check equations
 abbrev pub mostParity : ℕ
-mostParity = mostRows
+mostParity = 16
+
+-- the most points of columns by check equations: there are no more bytes but 0
+abbrev pub mostPoints : ℕ
+mostPoints = 255
 
 -- the most columns of a stripe
 abbrev pub mostColumns : ℕ
@@ -24,7 +28,10 @@ mostColumns = mostData + mostRows
 abbrev pub mostLength : ℕ
 mostLength = 4096
 
--- the most bytes of all parity columns
+-- the most bytes of all parity columns by rows, and of all parity columns
+abbrev pub mostRowsLength : ℕ
+mostRowsLength = mostRows * mostLength
+
 abbrev pub mostParityLength : ℕ
 mostParityLength = mostParity * mostLength
 
@@ -34,7 +41,11 @@ dataAllowed k = leb 1 k && leb k mostData
 
 -- r is 1 to 3
 abbrev pub parityAllowed : ℕ → Bool
-parityAllowed r = leb 1 r && leb r mostParity
+parityAllowed r = leb 1 r && leb r mostRows
+
+-- where r is above 3, k+r is at most 255
+abbrev pub pointsAllowed : ℕ → ℕ → Bool
+pointsAllowed k r = leb r mostRows || leb (k + r) mostPoints
 
 -- t is 0, or r < t <= 3 with t <= k
 abbrev pub markAllowed : ℕ → ℕ → ℕ → Bool
@@ -47,7 +58,8 @@ lengthAllowed t l = leb 1 l && leb l mostLength && (eqb t 0 || eqb (l % t) 0)
 -- the refusal of a shape: 1 for k, r or t, 2 for L, 0 for none
 unfoldable pub shapeRefusal : Shape → ℕ
 shapeRefusal s =
-    cond (dataAllowed (s .k) && parityAllowed (s .r) && markAllowed (s .k) (s .r) (s .t)) (cond (lengthAllowed (s .t) (s .l)) 0 2) 1
+    cond (dataAllowed (s .k) && parityAllowed (s .r) && pointsAllowed (s .k) (s .r) && markAllowed (s .k) (s .r) (s .t))
+    (cond (lengthAllowed (s .t) (s .l)) 0 2) 1
 
 -- the shape of no columns, which is refused; it stands where there is no shape to report
 abbrev pub noShape : Shape

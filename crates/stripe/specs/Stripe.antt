@@ -1,5 +1,5 @@
--- Stripes (document 01, 'Stripes'): parity by definition, plain and prepared, and codewords. A stripe's bytes are its columns in
--- order, the data columns first: byte place p of the column at position c stands at c * L + p.
+-- Stripes (document 01, 'Stripes'; document 02, request 6): parity by definition, plain and prepared, and codewords. A stripe's bytes
+-- are its columns in order, the data columns first: byte place p of the column at position c stands at c * L + p.
 use Prim.Native.Nat.{ℕ, zero, suc, _+_, _*_, _/_, _%_, _<_, _≤_}
 use mathlib.Core.Path.{_≡_}
 use mathlib.Core.Bool.{Bool, true, false, cond, _&&_, _||_}
@@ -9,8 +9,9 @@ use lib.ListN.{length, getD, take, drop}
 use Rattle.field.specs.Field.{_⊕_}
 use Rattle.field.specs.Bytes.{Bytes, tabulate}
 use Rattle.field.specs.Row.{row}
+use Rattle.points.specs.Points.{points, sumAt, parityOf as solvedParity}
 use Rattle.stripe.specs.declared.Shape.{Shape}
-use Rattle.stripe.specs.Shape.{columns, dataLength, parityLength, stripeLength}
+use Rattle.stripe.specs.Shape.{mostRows, mostParity, columns, dataLength, parityLength, stripeLength}
 
 -- the bytes at place p of m columns of l bytes, the first of which starts at o
 unfoldable pub across : List ℕ → ℕ → ℕ → ℕ → ℕ → List ℕ
@@ -38,9 +39,21 @@ unfoldable pub piggyback : Shape → List ℕ → ℕ → ℕ → ℕ
 piggyback s ds i p =
     cond (ltb (p / runLength s) (plainRuns s)) 0 (rowAt s ds (p / runLength s) (i * runLength s + p % runLength s))
 
--- the byte of parity column i at place p
+-- ---- r from 4 to 16: the code is given by check equations. No such r is allowed yet
+
+unfoldable pub byPoints : Shape → Bool
+byPoints s = ltb mostRows (s .r) && leb (s .r) mostParity
+
+-- sum u at place p: the sum over all positions of point^u times byte
+unfoldable pub checkSum : Shape → List ℕ → ℕ → ℕ → ℕ
+checkSum s xs p u = sumAt (points (s .k) (s .r)) (across xs (s .l) p 0 (columns s)) u
+
+-- ---- any r
+
+-- the byte of parity column i at place p: by rows, or the byte that the check equations leave for it
 unfoldable pub parityByte : Shape → List ℕ → ℕ → ℕ → ℕ
-parityByte s ds i p = rowAt s ds i p ⊕ piggyback s ds i p
+parityByte s ds i p =
+    cond (byPoints s) (getD (solvedParity (s .r) (across ds (s .l) p 0 (s .k))) i 0) (rowAt s ds i p ⊕ piggyback s ds i p)
 
 -- the parity columns of the data, in order
 unfoldable pub parity : Shape → List ℕ → List ℕ
@@ -53,11 +66,12 @@ dataOf s xs = take (dataLength s) xs
 abbrev pub parityOf : Shape → List ℕ → List ℕ
 parityOf s xs = drop (dataLength s) xs
 
--- a stripe whose parity is exactly this
+-- a stripe whose parity is exactly this; with r from 4 to 16 one whose every sum below r is zero, which is the same
 pub record Codeword (s : Shape) (xs : List ℕ) : Type 0 where
   pub bytes : Bytes xs
   pub long : length xs ≡ stripeLength s
-  pub exact : parityOf s xs ≡ parity s (dataOf s xs)
+  pub exact : byPoints s ≡ false → parityOf s xs ≡ parity s (dataOf s xs)
+  pub sums : byPoints s ≡ true → (p u : ℕ) → p < s .l → u < s .r → checkSum s xs p u ≡ 0
 
 -- position c stands in the list
 unfoldable pub among : ℕ → List ℕ → Bool

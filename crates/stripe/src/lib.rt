@@ -2,7 +2,8 @@
 pub mod column;
 
 ghost use mathlib.Core.Path.{_≡_};
-ghost use Rattle.stripe.specs.Shape.{markAllowed, lengthAllowed, shapeRefusal};
+ghost use Prim.Native.Nat.{_≤_};
+ghost use Rattle.stripe.specs.Shape.{mostData, mostParity, pointsAllowed, markAllowed, lengthAllowed, shapeRefusal};
 ghost use Rattle.stripe.specs.Stripe.{runs, runLength, among};
 
 // The most data columns.
@@ -10,11 +11,13 @@ pub const MOST_DATA: usize = 255;
 // The most parity columns whose parity is by rows.
 pub const MOST_ROWS: usize = 3;
 // The most parity columns of a stripe.
-pub const MOST_PARITY: usize = MOST_ROWS;
+pub const MOST_PARITY: usize = 16;
+// The most columns of a stripe with more than MOST_ROWS parity columns.
+pub const MOST_POINTS: usize = 255;
 // The most bytes of a column.
 pub const MOST_LENGTH: usize = 4096;
-// The most bytes of all parity columns.
-pub const MOST_PARITY_LENGTH: usize = MOST_PARITY * MOST_LENGTH;
+// The most bytes of all parity columns by rows.
+pub const MOST_ROWS_LENGTH: usize = MOST_ROWS * MOST_LENGTH;
 
 // The numbers of a stripe: data columns, parity columns, the mark (0 for a plain stripe, else the parity count that the
 // stripe is prepared to gain), and the bytes of a column. Values are made by `Shape::new` alone.
@@ -50,7 +53,10 @@ impl Shape {
         if r < 1 {
             return 1;
         }
-        if MOST_PARITY < r {
+        if MOST_ROWS < r {
+            return 1;
+        }
+        if !points_allowed(k, r) {
             return 1;
         }
         if !mark_allowed(k, r, t) {
@@ -75,6 +81,17 @@ impl Shape {
     {
         self.l / self.runs()
     }
+}
+
+// Whether r is at most 3, or k + r at most 255.
+fn points_allowed(k: usize, r: usize) -> bool
+    requires { ⌜ (k ≤ mostData) × (r ≤ mostParity) ⌝ }
+    ensures { λ v. ⌜ v ≡ pointsAllowed k r ⌝ }
+{
+    if r <= MOST_ROWS {
+        return true;
+    }
+    k + r <= MOST_POINTS
 }
 
 // Whether t is 0, or r < t <= 3 with t <= k.

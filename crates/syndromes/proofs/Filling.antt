@@ -1,6 +1,7 @@
 -- What is filled in are the syndromes: of a plain stripe each row lacks what `Apart` says, since its parity is rows; of any stripe
 -- the encoding of its data and its parity columns add up to them, and each row times the inverse of its weight is the row over it.
 use mathlib.Core.Path.{_≡_, refl, sym, ap, ap₂, _∙_, subst}
+use mathlib.Core.Bool.{false}
 use mathlib.Core.List.{List, map}
 use mathlib.Core.Logic.{_⊎_, inl, inr, ⊎-elim}
 use Prim.Native.Nat.{ℕ, _+_, _-_, _*_, _<_, _≤_}
@@ -20,9 +21,9 @@ use Rattle.lanes.proofs.Onto.{onto-at, onto-length}
 use Rattle.lanes.proofs.Onto.{map-at}
 use Rattle.lanes.proofs.Parts.{part-length, part-at, back-length, back-inside, back-outside}
 use Rattle.stripe.specs.declared.Shape.{Shape}
-use Rattle.stripe.specs.Shape.{shapeRefusal, dataLength, parityLength, stripeLength, mostData, mostParity}
-use Rattle.stripe.specs.Stripe.{parityByte, parity, dataOf, parityOf}
-use Rattle.stripe.proofs.Allowed.{allowed}
+use Rattle.stripe.specs.Shape.{shapeRefusal, dataLength, parityLength, stripeLength, mostData, mostRows}
+use Rattle.stripe.specs.Stripe.{byPoints, parityByte, parity, dataOf, parityOf}
+use Rattle.stripe.proofs.Allowed.{allowed, rows-most}
 use Rattle.stripe.proofs.Lent.{lent-both}
 use Rattle.stripe.proofs.Places.{place-lt, parity-at, parity-length, plain-parity, row-at-stripe, parity-of-at, parity-of-length, data-of-length}
 use Rattle.coding.specs.Encode.{encoded}
@@ -47,20 +48,22 @@ parted s x xs p h b =
       long = h .long;
       room = h .room;
       some = b .rows;
-      most = a .parity-most;
+      most = rows-most s a (h .rows);
       within = set-apart s x _ _ h (b .later) .1;
       wide = a .data-most;
       length-some = b .long;
       length-most = a .length-most;
     }
 
-pub plain-lacks : (s : Shape) (x : ℕ) (xs ys : List ℕ) → shapeRefusal s ≡ 0 → s .t ≡ 0 → Bytes ys → Apart xs (s .k) (s .l) (s .r) x ys → Syndromes s x xs ys
-plain-lacks s x xs ys h plain b a =
+pub plain-lacks : (s : Shape) (x : ℕ) (xs ys : List ℕ) → shapeRefusal s ≡ 0 → byPoints s ≡ false → s .t ≡ 0 → Bytes ys
+    → Apart xs (s .k) (s .l) (s .r) x ys → Syndromes s x xs ys
+plain-lacks s x xs ys h rows plain b a =
     record {
       bytes = b;
       long = a .long;
       at = λ j y hj hy. a .at j y hj hy
-          ∙ ap (λ (z : ℕ). getD xs ((s .k + j) * s .l + y) 0 ⊕ z) (sym (plain-parity s (dataOf s xs) j y (allowed s h) plain hy ∙ row-at-stripe s xs j y hy));
+          ∙ ap (λ (z : ℕ). getD xs ((s .k + j) * s .l + y) 0 ⊕ z)
+          (sym (plain-parity s (dataOf s xs) j y (allowed s h) rows plain hy ∙ row-at-stripe s xs j y hy));
     }
 
 -- ---- any stripe
@@ -97,7 +100,7 @@ whole-lacks s xs os es ys h b ee ey = record { bytes = b; long = ap length ey �
         ∙ add-comm _ _
 
 pub first-lent : (s : Shape) (x d p : ℕ) → Lent s x d p → Lent s 0 d p
-first-lent s x d p h = record { shape = h .shape; long = h .long; room = h .room; apart = inl refl }
+first-lent s x d p h = record { shape = h .shape; rows = h .rows; long = h .long; room = h .room; apart = inl refl }
 
 -- ---- rows over their weights
 
@@ -159,11 +162,11 @@ pub divide-done : (l r x j : ℕ) (ys zs : List ℕ) → r ≤ j → DividedTo l
 divide-done l r x j ys zs e h = record { long = h .long; at = λ i y less k. h .done i y (omega (arith, e, less)) k }
 
 -- the exponents of the weights are small
-pub weights-small : (s : Shape) (x d p : ℕ) → Lent s x d p → s .r * x ≤ mostParity * mostData
+pub weights-small : (s : Shape) (x d p : ℕ) → Lent s x d p → s .r * x ≤ mostRows * mostData
 weights-small s x d p h =
     let a = allowed s (h .shape) in
     let few : x ≤ mostData = go (h .apart) in
-    omega (arith, mul-le-mul-right x (a .parity-most), few)
+    omega (arith, mul-le-mul-right x (rows-most s a (h .rows)), few)
   where
     go : (x ≡ 0) ⊎ ((s .t ≡ 0) × (x < s .k)) → x ≤ mostData
     go (inl e) = omega arith

@@ -1,6 +1,7 @@
 -- Horner's rule upwards: a byte that, times g^(j*i), is the parity and row j of the i first columns gets the next column added and is
 -- divided by g^j. With the row of the columns from x on that makes what the row lacks, over the weight of column x.
 use mathlib.Core.Path.{_≡_, refl, sym, ap, ap₂, _∙_, subst}
+use mathlib.Core.Bool.{false}
 use mathlib.Core.List.{List, _∷_, _++_}
 use mathlib.Core.Logic.{_⊎_, inl, inr, ⊎-elim}
 use Prim.Native.Nat.{ℕ, zero, suc, _+_, _*_, _-_, _<_, _≤_}
@@ -22,10 +23,10 @@ use Rattle.lanes.specs.Lanes.{onto}
 use Rattle.lanes.proofs.Onto.{onto-at, onto-length}
 use Rattle.lanes.proofs.Parts.{part-length, part-at, back-length, back-inside, back-outside}
 use Rattle.stripe.specs.declared.Shape.{Shape}
-use Rattle.stripe.specs.Shape.{shapeRefusal, mostData, mostParity, mostLength}
-use Rattle.stripe.specs.Stripe.{across, rowAt, parity}
+use Rattle.stripe.specs.Shape.{shapeRefusal, mostData, mostRows, mostParity, mostLength}
+use Rattle.stripe.specs.Stripe.{across, byPoints, rowAt, parity}
 use Rattle.stripe.specs.Column.{lentRefusal}
-use Rattle.stripe.proofs.Allowed.{allowed}
+use Rattle.stripe.proofs.Allowed.{allowed, few-by-rows}
 use Rattle.stripe.proofs.Lent.{lent-both}
 use Rattle.stripe.proofs.Places.{across-length, across-take, parity-at, parity-length, plain-parity}
 use Rattle.coding.specs.Encode.{encoded}
@@ -284,10 +285,11 @@ across-part xs l p a m n h e =
     ap (λ (z : ℕ). across (take z (drop a xs)) l p 0 m) e ∙ across-take (drop a xs) l p m h ∙ across-drop xs l p a 0 m
     ∙ ap (λ (z : ℕ). across xs l p z m) (omega arith)
 
-plain-allowed : (s : Shape) → 1 ≤ s .k → s .k ≤ mostData → 1 ≤ s .r → s .r ≤ mostParity → s .t ≡ 0 → 1 ≤ s .l → s .l ≤ mostLength → shapeRefusal s ≡ 0
+plain-allowed : (s : Shape) → 1 ≤ s .k → s .k ≤ mostData → 1 ≤ s .r → s .r ≤ mostRows → s .t ≡ 0 → 1 ≤ s .l → s .l ≤ mostLength → shapeRefusal s ≡ 0
 unfolding shapeRefusal
 plain-allowed s k1 k2 r1 r2 t l1 l2 =
-    simp (le-leb _ _ k1, le-leb _ _ k2, le-leb _ _ r1, le-leb _ _ r2, le-leb _ _ l1, le-leb _ _ l2, eq-eqb _ _ t)
+    let most : s .r ≤ mostParity = omega arith in
+    simp (le-leb _ _ k1, le-leb _ _ k2, le-leb _ _ r1, le-leb _ _ r2, le-leb _ _ most, le-leb _ _ l1, le-leb _ _ l2, eq-eqb _ _ t)
 
 module _ (s : Shape) (xs os ps : List ℕ) (k l r x : ℕ) (h : Parted xs k l r x (length os)) (ek : s .k ≡ k - x) (er : s .r ≡ r)
     (et : s .t ≡ 0) (el : s .l ≡ l) where
@@ -305,9 +307,15 @@ module _ (s : Shape) (xs os ps : List ℕ) (k l r x : ℕ) (h : Parted xs k l r 
   upper-long : length upper ≡ k * l - x * l
   upper-long = simp (length-take, length-drop) (omega (arith, h .long, upper-within))
 
+  few : s .r ≤ mostRows
+  few = omega (arith, h .most)
+
+  rows : byPoints s ≡ false
+  rows = few-by-rows s few
+
   passed : shapeRefusal s ≡ 0
   passed =
-      plain-allowed s (omega (arith, h .within)) (omega (arith, h .wide)) (omega (arith, h .some)) (omega (arith, h .most)) et
+      plain-allowed s (omega (arith, h .within)) (omega (arith, h .wide)) (omega (arith, h .some)) few et
       (omega (arith, h .length-some)) (omega (arith, h .length-most))
 
   refused : lentRefusal s (length upper) (length os) ≡ 0
@@ -333,7 +341,7 @@ module _ (s : Shape) (xs os ps : List ℕ) (k l r x : ℕ) (h : Parted xs k l r 
             left = λ p past lp.
                 let lp′ : p < s .l = omega arith in
                 ap₂ (λ (qs : List ℕ) (z : ℕ). getD qs (j * z + p) 0) exact (sym el)
-                ∙ parity-at s upper j p (omega arith) lp′ ∙ plain-parity s upper j p (allowed s passed) et lp′
+                ∙ parity-at s upper j p (omega arith) lp′ ∙ plain-parity s upper j p (allowed s passed) rows et lp′
                 ∙ ap₂ (λ (z m : ℕ). row j (across upper z p 0 m)) el ek
                 ∙ ap (row j) (across-part xs l p (x * l) (k - x) (k * l - x * l) lp upper-width);
           }

@@ -9,11 +9,13 @@ use Rattle.field.specs.Field.{_⊕_, _⊗_, gpow}
 use Rattle.field.specs.Bytes.{Bytes}
 use Rattle.stripe.specs.declared.Shape.{Shape}
 use Rattle.stripe.specs.Shape.{shapeRefusal, parityLength, stripeLength}
-use Rattle.stripe.specs.Stripe.{parityByte, dataOf}
+use Rattle.stripe.specs.Stripe.{byPoints, parityByte, dataOf}
 
--- a whole stripe of d bytes, of an allowed shape, and a buffer of p bytes for its r rows; x is 0, or a data column of a plain stripe
+-- a whole stripe of d bytes, of an allowed shape by rows, and a buffer of p bytes for its r rows; x is 0, or a data column of a plain
+-- stripe
 pub record Lent (s : Shape) (x d p : ℕ) : Type 0 where
   pub shape : shapeRefusal s ≡ 0
+  pub rows : byPoints s ≡ false
   pub long : d ≡ stripeLength s
   pub room : p ≡ parityLength s
   pub apart : (x ≡ 0) ⊎ ((s .t ≡ 0) × (x < s .k))

@@ -8,13 +8,14 @@ use coding::encode::encode;
 use field::Gf;
 use lanes::add;
 use products::scale_all;
+use stripe::MOST_ROWS;
 use stripe::Shape;
 ghost use mathlib.Core.Path.{_≡_};
 ghost use mathlib.Core.Bool.{true};
 ghost use Prim.Native.Nat.{_*_, _≤_};
 ghost use lib.ListN.{length};
 ghost use Rattle.syndromes.specs.Syndromes.{Lent, Syndromes, Filled, Says, InBlocks, Divided};
-ghost use Rattle.stripe.specs.Shape.{mostData, mostParity};
+ghost use Rattle.stripe.specs.Shape.{mostData, mostRows};
 
 // What each row lacks of the parity as it lies, over the weight that column x has in it; nothing is written where the stripe, the
 // buffer or x is not as `Lent` says.
@@ -44,6 +45,9 @@ fn lent(s: Shape, x: usize, d: usize, p: usize) -> bool
     let k = s.k;
     let r = s.r;
     let l = s.l;
+    if MOST_ROWS < r {
+        return false;
+    }
     if d != (k + r) * l {
         return false;
     }
@@ -88,7 +92,7 @@ fn fill_whole(s: Shape, x: usize, stripe: &[u8], out: &mut [u8])
 
 // Each row over its weight of column x, by a product.
 fn divide(s: Shape, x: usize, out: &mut [u8])
-    requires { ⌜ (length (now out) ≡ s .r * s .l) × (s .r * x ≤ mostParity * mostData) ⌝ }
+    requires { ⌜ (length (now out) ≡ s .r * s .l) × (s .r * x ≤ mostRows * mostData) ⌝ }
     ensures { λ _. ⌜ Divided (s .l) (s .r) x (now (out .entry)) (now (out .exit)) ⌝ }
 {
     if x == 0 {

@@ -52,8 +52,7 @@ module _ (s : Shape) (es xs : List ℕ) (room : ℕ) where
     pub text-fits : 0 + length (stripeText s es xs) ≤ room
     text-fits =
         let p = printable-says s (length xs) room can in
-        let a = allowed s (p .shaped) in
-        omega (arith, text-at-most s es xs (omega (arith, a .data-most, a .parity-most)) (omega (arith, p .whole, p .small)), p .wide)
+        omega (arith, text-at-most s es xs (allowed s (p .shaped) .columns-most) (omega (arith, p .whole, p .small)), p .wide)
 
 pub unprintable-refusal : (v room : ℕ) → room < 40 → refusalPrinted v room ≡ []
 unfolding refusalPrinted

@@ -105,10 +105,10 @@ module _ (sh : Shape) (es xs : List ℕ) (lawful : stripeRefusal sh ≡ 0) (asce
   four = number-next s _ (nextOf (thirdNumber s)) (sh .l) (omega (arith, good .length-most)) (three .rest)
 
   five : Next s (nextOf (fourthNumber s)) (length es) (positionsWritten es ++ columns-left)
-  five = number-next s _ (nextOf (fourthNumber s)) (length es) (omega (arith, few, good .data-most, good .parity-most)) (four .rest)
+  five = number-next s _ (nextOf (fourthNumber s)) (length es) (omega (arith, few, good .columns-most)) (four .rest)
 
   read : Listed s (columns sh) (length es) 0 (nextOf (countNumber s)) es columns-left
-  read = positions-read s (columns sh) 0 (nextOf (countNumber s)) es columns-left (omega (arith, good .data-most, good .parity-most)) ascending (five .rest)
+  read = positions-read s (columns sh) 0 (nextOf (countNumber s)) es columns-left (omega (arith, good .columns-most)) ascending (five .rest)
 
   -- the same shape, and the same list
   pub shape-back : sh ≡ shapeRead s

@@ -232,7 +232,7 @@ module _ (s : Shape) (xs es : List ℕ) (room : ℕ) (w : Writable s xs es room)
   lost-few = omega (arith, few-lost (columns s) es (w .ascending))
 
   pub lost-most : length es ≤ 258
-  lost-most = let a = described s (w .stripe-described) .0 in omega (arith, lost-few, a .data-most, a .parity-most)
+  lost-most = omega (arith, lost-few, described s (w .stripe-described) .0 .columns-most)
 
   pub columns-bytes : length (recordHead s es) + kept es 0 (columns s) * s .l ≡ length (recordOf s es xs)
   columns-bytes =

@@ -1,24 +1,23 @@
 -- `apply` meets its contract: numbers that do not fit, or all columns at every place.
 use Prim.Native.Nat.{ℕ, _*_}
-use mathlib.Core.Path.{_≡_, sym, ap, subst, _∙_}
+use mathlib.Core.Path.{_≡_, sym, ap, _∙_}
 use mathlib.Core.Bool.{true}
 use native.Mathlib.Omega.{arith}
 use lib.ListN.{length}
 use borrow.Author.Needs.{needs}
 use borrow.Author.Tests.{not-true, not-false}
 use Rattle.matrix.specs.Matrix.{matrixFits}
-use Rattle.matrix.specs.Sums.{Inside}
 use Rattle.matrix.proofs.Listing.{held-one}
-use Rattle.matrix.proofs.Shape.{Lengths, lengths-fit, all-inside, becomes-left, becomes-applied}
+use Rattle.matrix.proofs.Shape.{Lengths, lengths-fit, becomes-left, becomes-applied}
 use Rattle.matrix.proofs.apply.Statement.{statement}
 use Rattle.matrix.proofs.apply.Tie as tie
 
-fits : (c : tie.Else1) → let a = c .before .before .before .before .before .args in
-    matrixFits (a .rows) (a .m) (a .from) (a .stride) (a .count) (length (a .matrix .now)) (length (a .columns .now)) (length (a .out .now)) ≡ true
+fits : (c : tie.Else1) → let a = c .before .before .before .before .before .before .args in
+    matrixFits (a .rows) (a .at .now) (a .from) (a .stride) (a .count) (length (a .matrix .now)) (length (a .columns .now)) (length (a .out .now)) ≡ true
 fits c = sym (c .before .fits2 .ensures) ∙ not-false _ (c .if1 .left)
 
-known : (c : tie.Else1) → let a = c .before .before .before .before .before .args in
-    Lengths (a .rows) (a .m) (a .from) (a .stride) (a .count) (length (a .matrix .now)) (length (a .columns .now)) (length (a .out .now))
+known : (c : tie.Else1) → let a = c .before .before .before .before .before .before .args in
+    Lengths (a .rows) (a .at .now) (a .from) (a .stride) (a .count) (length (a .matrix .now)) (length (a .columns .now)) (length (a .out .now))
 known c = lengths-fit _ _ _ _ _ _ _ _ (fits c)
 
 fits-requires : tie.Need-fits-requires
@@ -34,16 +33,12 @@ one-row-requires : tie.Need-one-row-requires
 one-row-requires c κs =
     let t = c .before .before .before in
     let f = known t in
-    let a = t .before .before .before .before .before .args in
-    let one = c .before .before .alone .ensures (c .before .if2 .taken) in
-    let same : length (a .matrix .now) ≡ a .m = omega (arith, f .matrix, ap (λ (x : ℕ). x * a .m) one) in (
-      omega (arith, f .numbers .columns-some),
+    let a = t .before .before .before .before .before .before .args in
+    let one = c .before .before .alone .ensures (c .before .if2 .taken) in (
+      f .numbers .columns-some,
       (
-        omega (arith, f .numbers .columns-most),
-        (
-          subst (λ (x : ℕ). Inside (a .columns .now) (a .from) (a .stride) x (a .count)) (sym same) (all-inside _ _ _ _ (a .columns .now) (f .columns)),
-          omega (arith, f .out, ap (λ (x : ℕ). x * a .count) one),
-        ),
+        f .numbers .columns-most,
+        (omega (arith, f .matrix, ap (λ (x : ℕ). x * length (a .at .now)) one), (f .columns, omega (arith, f .out, ap (λ (x : ℕ). x * a .count) one))),
       ),
     )
 
@@ -53,17 +48,16 @@ same-length c = search needs
 returns-2 : tie.Need-returns-2
 returns-2 c =
     let t = c .before .before .before .before .before .before in
-    let qs = c .before .before .one-row .last .1 .1 .1 .1 .1 .0 in
-    let same : length qs ≡ length (t .before .before .before .before .before .args .out .now) = search needs in
+    let qs = c .before .before .one-row .last .1 .1 .1 .1 .1 .1 .0 in
+    let same : length qs ≡ length (t .before .before .before .before .before .before .args .out .now) = search needs in
     let one = c .before .before .before .before .before .alone .ensures (c .before .before .before .before .if2 .taken) in
-    let held = held-one _ _ _ _ _ _ _ _ one (known t .matrix) (c .before .before .one-row .ensures) in
+    let held = held-one _ _ _ _ _ _ _ _ _ one (c .before .before .one-row .ensures) in
     becomes-applied _ _ _ _ _ _ _ _ (fits t) qs (same ∙ known t .out) (known t .numbers .columns-some) held
 
 fill-requires : tie.Need-fill-requires
 fill-requires c κs =
     let f = known (c .before .before .before) in
-    let a = c .before .before .before .before .before .before .before .before .args in
-    (f .numbers .rows-most, (f .matrix, (all-inside _ _ _ _ (a .columns .now) (f .columns), f .out)))
+    (f .numbers .rows-most, (f .matrix, (f .columns, f .out)))
 
 same-length-2 : tie.Need-same-length-2
 same-length-2 c = search needs
@@ -72,7 +66,7 @@ returns-3 : tie.Need-returns-3
 returns-3 c =
     let t = c .before .before .before .before .before .before in
     let qs = c .before .before .fill .last .1 .1 .1 .1 .1 .1 .1 .0 in
-    let same : length qs ≡ length (t .before .before .before .before .before .args .out .now) = search needs in
+    let same : length qs ≡ length (t .before .before .before .before .before .before .args .out .now) = search needs in
     becomes-applied _ _ _ _ _ _ _ _ (fits t) qs (same ∙ known t .out) (known t .numbers .columns-some) (c .before .before .fill .ensures)
 
 pub apply-spec : {M : Type 1} → statement M

@@ -17,7 +17,7 @@ abbrev μ-loop : tie.MeasureT-loop
 
 first-small : (s : tie.Start Inv-loop μ-loop) → getD (s .args .es .now) (s .args .row) 0 < 16
 first-small s =
-    let r : s .args .row + 0 ≡ s .args .row = omega arith in
+    let r : s .args .row + 0 * 8 ≡ s .args .row = omega arith in
     subst (λ (x : ℕ). getD (s .args .es .now) x 0 < 16) r (s .pre .1 .1 .1 .1 0 (omega arith))
 
 shared-slice-read-wide : tie.Need-shared-slice-read-wide Inv-loop μ-loop
@@ -49,6 +49,9 @@ loop-holds c = (search needs, search needs, bit-start _ _ _ _)
 
 mul-o : tie.Need-mul-o Inv-loop μ-loop
 mul-o c = search needs
+
+mul-wide : tie.Need-mul-wide Inv-loop μ-loop
+mul-wide c = search needs
 
 add-wide : tie.Need-add-wide Inv-loop μ-loop
 add-wide c = search needs
@@ -129,6 +132,7 @@ bit-step-spec =
     double-add-requires
     loop-holds
     mul-o
+    mul-wide
     add-wide
     shared-slice-read-wide-2
     wide-requires-2

@@ -10,11 +10,11 @@ use Rattle.matrix.proofs.fill.Statement.{statement}
 use Rattle.matrix.proofs.fill.Tie as tie
 
 abbrev Inv-loop : tie.InvT-loop
-Inv-loop rows m matrix columns from stride count out₀ i₀ out i =
-    (i ≤ m) × (length out ≡ rows * count) × Held matrix m columns from stride count rows i out
+Inv-loop rows cs matrix columns from stride count out₀ i₀ out i =
+    (i ≤ length cs) × (length out ≡ rows * count) × Held matrix cs columns from stride count rows i out
 
 abbrev μ-loop : tie.MeasureT-loop
-μ-loop rows m matrix columns from stride count out₀ i₀ out i = m - i
+μ-loop rows cs matrix columns from stride count out₀ i₀ out i = length cs - i
 
 loop-holds : tie.Need-loop-holds Inv-loop μ-loop
 loop-holds c = (search needs, search needs, held-none _ _ _ _ _ _ _ _)
@@ -27,7 +27,7 @@ shorter-requires c κs = search needs
 
 slab-requires : tie.Need-slab-requires Inv-loop μ-loop
 slab-requires c κs =
-    let s = c .before .before .before .before .before .before .before in
+    let s = c .before .before .before .before .before .before .before .before in
     let at = c .before .before .before .loop in
     let n = c .before .shorter .ensures in
     let some = least-some 32 _ _ (omega arith) (omega arith) (n .1 .1) in
@@ -48,7 +48,7 @@ same-length : tie.Need-same-length Inv-loop μ-loop
 same-length c = search needs
 
 returns : tie.Need-returns Inv-loop μ-loop
-returns c = held-done _ _ _ _ _ _ _ _ _ (omega (arith, c .loop-test .left)) (c .before .loop .inv .2)
+returns c = held-done _ _ _ _ _ _ _ _ _ _ (omega (arith, c .loop-test .left)) (c .before .loop .inv .2)
 
 pub fill-spec : {M : Type 1} → statement M
 fill-spec =

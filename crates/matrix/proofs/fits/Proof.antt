@@ -3,6 +3,7 @@ use mathlib.Core.Path.{_≡_, sym, _∙_}
 use mathlib.Core.Bool.{true}
 use native.Mathlib.Nat.{mul-le-mul}
 use native.Mathlib.Omega.{arith}
+use lib.ListN.{length}
 use borrow.Author.Tests.{not-true, not-false, eq-eqb, ne-eqb}
 use Rattle.matrix.specs.Matrix.{numbersFit, matrixFits}
 use Rattle.matrix.proofs.Shape.{numbers-fit}
@@ -10,7 +11,7 @@ use borrow.Author.Needs.{needs}
 use Rattle.matrix.proofs.fits.Statement.{statement}
 use Rattle.matrix.proofs.fits.Tie as tie
 
-known : (c : tie.Else1) → let a = c .before .before .args in numbersFit (a .rows) (a .m) (a .count) ≡ true
+known : (c : tie.Else1) → let a = c .before .before .before .args in numbersFit (a .rows) (length (a .cs .now)) (a .count) ≡ true
 known c = sym (c .before .numbers-fit .ensures) ∙ not-false _ (c .if1 .left)
 
 numbers-fit-requires : tie.Need-numbers-fit-requires
@@ -28,7 +29,7 @@ unfolding matrixFits
 returns-2 c = simp (known (c .before), ne-eqb _ _ (c .if2 .taken))
 
 columns-fit-requires : tie.Need-columns-fit-requires
-columns-fit-requires c κs = search needs
+columns-fit-requires c κs = numbers-fit _ _ _ (known (c .before)) .columns-some
 
 returns-3 : tie.Need-returns-3
 unfolding matrixFits

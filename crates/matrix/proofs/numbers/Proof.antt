@@ -1,16 +1,16 @@
--- `numbers` meets its contract: the numbers of the b lowest bits are there, and what is left of the weights is in hand.
+-- `numbers` meets its contract: the numbers of the b lowest bits are there, and those of the other bits are in hand.
 use Prim.Native.Nat.{_+_, _-_, _≤_}
-use mathlib.Core.Path.{_≡_, _∙_}
 use native.Mathlib.Omega.{arith}
 use lib.ListN.{getD}
 use borrow.Author.Needs.{needs}
-use Rattle.matrix.specs.Sums.{halved, Numbered}
-use Rattle.matrix.proofs.Digits.{halved-none, halved-more, side-by-side, lowest-index, numbered-start, numbered-turn, numbered-done}
+use Rattle.matrix.specs.Sums.{Numbered}
+use Rattle.matrix.proofs.Digits.{Left, left-start, left-turn, numbered-start, numbered-turn, numbered-done}
 use Rattle.matrix.proofs.numbers.Statement.{statement}
 use Rattle.matrix.proofs.numbers.Tie as tie
 
 abbrev Inv-loop : tie.InvT-loop
-Inv-loop es₀ at matrix from n x y z v p₀ b₀ es p b = (b ≤ 8) × (p ≡ halved b p₀) × Numbered (λ j. getD matrix (from + j) 0) at n b es₀ es
+Inv-loop es₀ at matrix from n x y z v p₀ b₀ es p b =
+    (b ≤ 8) × Left (λ j. getD matrix (from + j) 0) n b p × Numbered (λ j. getD matrix (from + j) 0) at n b es₀ es
 
 abbrev μ-loop : tie.MeasureT-loop
 μ-loop es₀ at matrix from n x y z v p₀ b₀ es p b = 8 - b
@@ -31,16 +31,22 @@ packed-requires : tie.Need-packed-requires Inv-loop μ-loop
 packed-requires c κs = search needs
 
 loop-holds : tie.Need-loop-holds Inv-loop μ-loop
-loop-holds c = (search needs, halved-none _, numbered-start _ _ _ _)
-
-mul-o : tie.Need-mul-o Inv-loop μ-loop
-mul-o c = search needs
+loop-holds c =
+    let v = c .before in
+    let z = v .before in
+    let y = z .before in
+    let x = y .before in (
+      search needs,
+      left-start _ _ _ _ _ _ _ (x .before .before .before .pre .1 .0) (x .weight .ensures) (y .weight2 .ensures) (z .weight3 .ensures) (v .weight4 .ensures)
+          (c .packed .ensures),
+      numbered-start _ _ _ _,
+    )
 
 add-o : tie.Need-add-o Inv-loop μ-loop
 add-o c = search needs
 
-lowest-requires : tie.Need-lowest-requires Inv-loop μ-loop
-lowest-requires c κs = search needs
+cast-es : tie.Need-cast-es Inv-loop μ-loop
+cast-es c = search needs
 
 slice-write-es : tie.Need-slice-write-es Inv-loop μ-loop
 slice-write-es c = search needs
@@ -53,17 +59,10 @@ loop-less c = search needs
 
 loop-again : tie.Need-loop-again Inv-loop μ-loop
 loop-again c =
-    let s = c .before .before .before .before .before .before .before .before .before .before in
-    let at = c .before .before .loop in
-    let w = c .before .before .before .before in
-    let r = c .before .before .before .packed .ensures in (
-      search needs,
-      halved-more _ _ _ (at .inv .1),
-      numbered-turn _ (s .args .at) (s .args .n) (at .b) _ _ _ (omega arith) (at .inv .2)
-          (c .lowest .ensures ∙ side-by-side (at .b) _ _ _ _ _ _ (c .before .loop-test .taken) (at .inv .1) (r .0) (r .1 .0) (r .1 .1 .0) (r .1 .1 .1)
-          ∙ lowest-index _ _ _ _ _ (at .b) (s .args .n) (s .pre .1 .0) (w .before .before .before .weight .ensures) (w .before .before .weight2 .ensures)
-          (w .before .weight3 .ensures) (w .weight4 .ensures)),
-    )
+    let s = c .before .before .before .before .before .before .before .before .before in
+    let at = c .before .loop in
+    let one = left-turn _ _ (at .b) _ (s .pre .1 .0) (c .loop-test .taken) (at .inv .1) in
+    (search needs, one .1, numbered-turn _ (s .args .at) (s .args .n) (at .b) _ _ _ (omega arith) (at .inv .2) (one .0))
 
 same-length : tie.Need-same-length Inv-loop μ-loop
 same-length c = search needs
@@ -83,9 +82,8 @@ numbers-spec =
     weight-requires-4
     packed-requires
     loop-holds
-    mul-o
     add-o
-    lowest-requires
+    cast-es
     slice-write-es
     add-b
     loop-less

@@ -26,11 +26,14 @@ add-loop c = search needs
 in-group-requires : tie.Need-in-group-requires Inv-loop μ-loop
 in-group-requires c κs = search needs
 
+mul-numbers : tie.Need-mul-numbers Inv-loop μ-loop
+mul-numbers c = search needs
+
 add-numbers : tie.Need-add-numbers Inv-loop μ-loop
 add-numbers c = search needs
 
-mul-numbers : tie.Need-mul-numbers Inv-loop μ-loop
-mul-numbers c = search needs
+mul-numbers-2 : tie.Need-mul-numbers-2 Inv-loop μ-loop
+mul-numbers-2 c = search needs
 
 add-numbers-2 : tie.Need-add-numbers-2 Inv-loop μ-loop
 add-numbers-2 c = search needs
@@ -57,7 +60,7 @@ loop-again c =
     let w = c .before .before .numbers .ensures in (
       search needs,
       w .long ∙ at .inv .1,
-      row-turn (s .args .matrix .now) (s .args .from) (s .args .row) (s .args .n) (at .g) (k .result) _ _ (omega arith) (k .ensures) (at .inv .2) w,
+      row-turn (s .args .matrix .now) (s .args .from) (s .args .row) (s .args .n) (at .g) (k .result) _ _ (k .ensures) (at .inv .2) w,
       λ i h. row-before _ (s .args .row) (at .g) _ _ _ w i h ∙ at .inv .3 i h,
     )
 
@@ -78,8 +81,9 @@ row-numbers-spec =
     loop-holds
     add-loop
     in-group-requires
-    add-numbers
     mul-numbers
+    add-numbers
+    mul-numbers-2
     add-numbers-2
     numbers-requires
     add-g

@@ -5,26 +5,26 @@ use native.Mathlib.Omega.{arith}
 use lib.ListN.{length}
 use Rattle.field.specs.Bytes.{Bytes}
 use Rattle.matrix.specs.Sums.{Inside, AllNumbered}
-use Rattle.matrix.proofs.Blocks.{Edge, slab-inside, least-some, all-small, edge-start, edge-turn, edge-done}
+use Rattle.matrix.proofs.Blocks.{Edge, part-inside, least-some, all-small, edge-start, edge-turn, edge-done}
 use borrow.Author.Needs.{needs}
 use Rattle.matrix.proofs.slab.Statement.{statement}
 use Rattle.matrix.proofs.slab.Tie as tie
 
 abbrev Inv-loop : tie.InvT-loop
-Inv-loop rows m i n matrix columns from stride count out₀ es t₀ at₀ out t at =
-    (at ≤ count) × (length out ≡ rows * count) × (length t ≡ 8192) × AllNumbered matrix m i n rows es
-    × Edge matrix m columns from stride count rows (i + n) i at out
+Inv-loop rows cs i n matrix columns from stride count out₀ es t₀ at₀ out t at =
+    (at ≤ count) × (length out ≡ rows * count) × (length t ≡ 8192) × AllNumbered matrix (length cs) i n rows es
+    × Edge matrix cs columns from stride count rows (i + n) i at out
 
 abbrev μ-loop : tie.MeasureT-loop
-μ-loop rows m i n matrix columns from stride count out₀ es t₀ at₀ out t at = count - at
+μ-loop rows cs i n matrix columns from stride count out₀ es t₀ at₀ out t at = count - at
 
 -- what is taken lies in the columns
-inside : (c : tie.After-shorter Inv-loop μ-loop) → let a = c .before .before .before .before .before .before .before .before .before .args in
-    Inside (a .columns .now) (a .from + a .i * a .stride + c .before .before .loop .at) (a .stride) (a .n) (c .shorter .result)
+inside : (c : tie.After-shorter Inv-loop μ-loop) → let a = c .before .before .before .before .before .before .before .before .before .before .args in
+    Inside (a .columns .now) (a .cs .now) (a .from + c .before .before .loop .at) (a .stride) (c .shorter .result)
 inside c =
-    let s = c .before .before .before .before .before .before .before .before .before in
+    let s = c .before .before .before .before .before .before .before .before .before .before in
     let a = s .args in
-    slab-inside (a .columns .now) (a .from) (a .stride) (a .m) (a .count) (a .i) (a .n) (c .before .before .loop .at) _ (s .pre .1 .1 .1 .0)
+    part-inside (a .columns .now) (a .cs .now) (a .from) (a .stride) (a .count) (c .before .before .loop .at) _
     (omega (arith, c .shorter .ensures .1 .0, c .before .loop-test .taken)) (s .pre .1 .1 .1 .1 .1 .0)
 
 slice-aggregate-all-numbers : tie.Need-slice-aggregate-all-numbers Inv-loop μ-loop
@@ -35,7 +35,7 @@ all-numbers-requires c κs = search needs
 
 loop-holds : tie.Need-loop-holds Inv-loop μ-loop
 loop-holds c =
-    let held = c .before .before .before .before .before .before .pre .1 .1 .1 .1 .1 .1 .1 in
+    let held = c .before .before .before .before .before .before .before .pre .1 .1 .1 .1 .1 .1 .1 in
     (search needs, search needs, search needs, c .before .all-numbers .ensures, edge-start _ _ _ _ _ _ _ _ _ _ held)
 
 sub-shorter : tie.Need-sub-shorter Inv-loop μ-loop
@@ -47,19 +47,15 @@ shorter-requires c κs = search needs
 slice-aggregate-tables : tie.Need-slice-aggregate-tables Inv-loop μ-loop
 slice-aggregate-tables c = search needs
 
-mul-tables : tie.Need-mul-tables Inv-loop μ-loop
-mul-tables c = omega (arith, inside (c .before) 0 (omega arith))
-
 add-tables : tie.Need-add-tables Inv-loop μ-loop
-add-tables c = omega (arith, inside (c .before) 0 (omega arith))
-
-add-tables-2 : tie.Need-add-tables-2 Inv-loop μ-loop
-add-tables-2 c = omega (arith, inside (c .before) 0 (omega arith))
+add-tables c =
+    let h = c .before .before .before .before .before .before .before .before .before .before .before .pre in
+    omega (arith, inside (c .before) 0 (omega (arith, h .1 .0, h .1 .1 .1 .0)))
 
 tables-requires : tie.Need-tables-requires Inv-loop μ-loop
 tables-requires c κs =
-    let h = c .before .before .before .before .before .before .before .before .before .before .pre in
-    (omega arith, (h .1 .1 .0, (c .before .shorter .ensures .0, λ j less. omega (arith, inside (c .before) j less))))
+    let h = c .before .before .before .before .before .before .before .before .before .before .before .pre in
+    (omega arith, (h .1 .1 .0, (h .1 .1 .1 .0, (c .before .shorter .ensures .0, λ i less. omega (arith, inside (c .before) i less)))))
 
 slice-aggregate-rows-block : tie.Need-slice-aggregate-rows-block Inv-loop μ-loop
 slice-aggregate-rows-block c = search needs
@@ -72,7 +68,7 @@ add-rows-block c = search needs
 
 rows-block-requires : tie.Need-rows-block-requires Inv-loop μ-loop
 rows-block-requires c κs =
-    let s = c .before .before .before .before .before .before .before .before .before .before .before .before .before .before .before in
+    let s = c .before .before .before .before .before .before .before .before .before .before .before .before .before .before .before .before in
     let h = s .pre in
     let at = c .before .before .before .before .before .before .before .before .loop in
     let w = c .before .before .before .before .before .before .shorter .ensures in
@@ -92,8 +88,8 @@ loop-again : tie.Need-loop-again Inv-loop μ-loop
 loop-again c =
     let w = c .before .before .before .before .before .before .before .before .before in
     let at = w .before .before .loop in
-    let s = w .before .before .before .before .before .before .before .before .before in
-    let bytes : Bytes (s .args .columns .now) = λ i. w .before .before .before .before .before .before .before .shared-slice-known2 .given i .fits in
+    let s = w .before .before .before .before .before .before .before .before .before .before in
+    let bytes : Bytes (s .args .columns .now) = λ i. w .before .before .before .before .before .before .before .shared-slice-known3 .given i .fits in
     let groups = c .before .before .before .before .before .before .before .tables .ensures .groups in
     let made = c .before .before .rows-block .ensures in
     let fits : at .at + w .shorter .result ≤ s .args .count = omega (arith, w .shorter .ensures .1 .0) in (
@@ -122,9 +118,7 @@ slab-spec =
     sub-shorter
     shorter-requires
     slice-aggregate-tables
-    mul-tables
     add-tables
-    add-tables-2
     tables-requires
     slice-aggregate-rows-block
     slice-aggregate-rows-block-2

@@ -1,5 +1,5 @@
 -- `straight` meets its contract: Horner's rule over the bits from b on.
-use Prim.Native.Nat.{ℕ, _+_, _-_, _*_, _<_, _≤_}
+use Prim.Native.Nat.{ℕ, _+_, _-_, _<_, _≤_}
 use mathlib.Core.Path.{_≡_, ap, sym, _∙_}
 use native.Mathlib.Omega.{arith}
 use lib.ListN.{getD}
@@ -11,7 +11,7 @@ use Rattle.matrix.proofs.straight.Statement.{statement}
 use Rattle.matrix.proofs.straight.Tie as tie
 
 abbrev Inv-loop : tie.InvT-loop
-Inv-loop t es row n y₀ b₀ y b = (b ≤ 8) × ((q : ℕ) → q < 64 → getD y q 0 ≡ fall (8 - b) b (λ d. picked t es (row + d * 8) n q))
+Inv-loop t es row n y₀ b₀ y b = (b ≤ 8) × ((q : ℕ) → q < 64 → getD y q 0 ≡ fall (8 - b) b (λ d. picked t es (row + d) n q))
 
 abbrev μ-loop : tie.MeasureT-loop
 μ-loop t es row n y₀ b₀ y b = b
@@ -30,9 +30,6 @@ loop-holds c =
 
 sub-b : tie.Need-sub-b Inv-loop μ-loop
 sub-b c = search needs
-
-mul-bit-step : tie.Need-mul-bit-step Inv-loop μ-loop
-mul-bit-step c = search needs
 
 add-bit-step : tie.Need-add-bit-step Inv-loop μ-loop
 add-bit-step c = search needs
@@ -55,15 +52,15 @@ loop-again c =
     let row = s .args .row in
     let n = s .args .n in (
       search needs,
-      λ q h. c .bit-step .ensures q h ∙ ap (λ (x : ℕ). 2 ⊗ x ⊕ picked t es (row + (at .b - 1) * 8) n q) (at .inv .1 q h)
-          ∙ fall-turn (at .b) (λ d. picked t es (row + d * 8) n q) (c .before .before .loop-test .taken) (at .inv .0),
+      λ q h. c .bit-step .ensures q h ∙ ap (λ (x : ℕ). 2 ⊗ x ⊕ picked t es (row + (at .b - 1)) n q) (at .inv .1 q h)
+          ∙ fall-turn (at .b) (λ d. picked t es (row + d) n q) (c .before .before .loop-test .taken) (at .inv .0),
     )
 
 returns : tie.Need-returns Inv-loop μ-loop
 unfolding rowValue
 returns c =
     let a = c .before .before .before .before .before .args in
-    λ q h. c .before .loop .inv .1 q h ∙ fall-done (c .before .loop .b) (λ d. picked (a .t .now) (a .es .now) (a .row + d * 8) (a .n) q) (c .loop-test .left)
+    λ q h. c .before .loop .inv .1 q h ∙ fall-done (c .before .loop .b) (λ d. picked (a .t .now) (a .es .now) (a .row + d) (a .n) q) (c .loop-test .left)
 
 pub straight-spec : {M : Type 1} → statement M
 straight-spec =
@@ -74,7 +71,6 @@ straight-spec =
     part-requires
     loop-holds
     sub-b
-    mul-bit-step
     add-bit-step
     bit-step-requires
     loop-less

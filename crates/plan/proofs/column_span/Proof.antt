@@ -33,7 +33,10 @@ div-span-of c =
     omega (arith, p .gains)
 
 mul-span-of : tie.Need-mul-span-of
-mul-span-of c = fits _ (omega (arith, first-small _ (c .before .before .before .before .pre .0)))
+mul-span-of c =
+    let start = c .before .before .before .before in
+    let p = b-prepared _ (start .args .f) (start .pre .0) (sym (c .before .before .before .kind-of .ensures) ∙ c .before .enum-told2 .given .1) in
+    fits _ (omega (arith, first-small _ (start .pre .0) p))
 
 sub-span-of : tie.Need-sub-span-of
 sub-span-of c =
@@ -52,8 +55,10 @@ mul-span-of-2 c = fits _ (omega (arith, part-small _ (c .before .before .before 
 
 span-of-requires-2 : tie.Need-span-of-requires-2
 span-of-requires-2 c κs =
-    let p = c .before .before .before .before .pre in
-    (omega (arith, p .1 .0), (omega (arith, p .1 .1), (omega (arith, first-small _ (p .0)), omega (arith, part-small _ (p .0)))))
+    let start = c .before .before .before .before in
+    let p = start .pre in
+    let b = b-prepared _ (start .args .f) (p .0) (sym (c .before .before .before .kind-of .ensures) ∙ c .before .enum-told2 .given .1) in
+    (omega (arith, p .1 .0), (omega (arith, p .1 .1), (omega (arith, first-small _ (p .0) b), omega (arith, part-small _ (p .0)))))
 
 span-of-requires-3 : tie.Need-span-of-requires-3
 span-of-requires-3 c κs =

@@ -14,7 +14,7 @@ returns : tie.Need-returns
 returns c = let r = c .before .refusal .ensures in r ∙ by-shape _ _ _ (λ e. c .if1 .taken (r ∙ e))
 
 stripes-allowed-requires : tie.Need-stripes-allowed-requires
-stripes-allowed-requires c κs = allowed _ (sym (c .before .refusal .ensures) ∙ c .if1 .left) .data-most
+stripes-allowed-requires c κs = let a = allowed _ (sym (c .before .refusal .ensures) ∙ c .if1 .left) in (a .data-most, a .parity-most)
 
 returns-2 : tie.Need-returns-2
 returns-2 c =

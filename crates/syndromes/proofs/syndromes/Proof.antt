@@ -43,8 +43,8 @@ returns-3 c =
     let b = c .before .before .before .before .before .in-blocks .ensures (not-false _ (c .before .before .before .before .if2 .left)) in
     record {
       lent =
-          λ g. plain-lacks (a .s) (a .x) (a .stripe .now) _ (h .shape) (set-apart (a .s) (a .x) _ _ h (b .later) .0) (λ i. c .slice-known3 .given i .fits)
-          (c .before .before .fill-apart .ensures);
+          λ g. plain-lacks (a .s) (a .x) (a .stripe .now) _ (h .shape) (h .rows) (set-apart (a .s) (a .x) _ _ h (b .later) .0)
+          (λ i. c .slice-known3 .given i .fits) (c .before .before .fill-apart .ensures);
       not-lent = λ n. absurd (n h);
     }
 

@@ -22,7 +22,7 @@ returns c =
 add-if2 : tie.Need-add-if2
 add-if2 c =
     let a = allowed (c .before .before .before .args .s) (sym (c .before .before .refusal .ensures) ∙ c .before .if1 .left) in
-    omega (arith, a .data-most, a .parity-most)
+    omega (arith, a .columns-most)
 
 mul-if2 : tie.Need-mul-if2
 mul-if2 c =

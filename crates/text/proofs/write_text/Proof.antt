@@ -37,7 +37,7 @@ add-n c =
     let can =
     sym (c .before .before .before .before .before .before .can-print .ensures) ∙ not-false _ (c .before .before .before .before .before .if1 .left) in
     let b = allowed (a .s) (printable-says (a .s) _ _ can .shaped) in
-    omega (arith, b .data-most, b .parity-most)
+    omega (arith, b .columns-most)
 
 put-lines-requires : tie.Need-put-lines-requires
 unfolding stripeText

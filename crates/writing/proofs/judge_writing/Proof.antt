@@ -38,7 +38,7 @@ add-n c =
     let es = now (a .lost) in
     let one = sym (c .before .before .stripe-refusal .ensures) ∙ c .before .if1 .left in
     let d = described (a .s) one in
-    omega (arith, d .0 .data-most, d .0 .parity-most)
+    omega (arith, d .0 .columns-most)
 
 mul-if2 : tie.Need-mul-if2
 mul-if2 c =
@@ -89,7 +89,7 @@ head-length-requires c κs =
     let ord = sym (c .before .ascends-below .ensures) ∙ not-false _ (c .if3 .left) in
     let asc = ascending-says 0 (columns (a .s)) es ord in
     let few = few-lost (columns (a .s)) es asc in
-    (one, omega (arith, few, d .0 .data-most, d .0 .parity-most))
+    (one, omega (arith, few, d .0 .columns-most))
 
 sub-length : tie.Need-sub-length
 sub-length c =
@@ -135,7 +135,7 @@ add-length c =
       d .1,
       mul-le-mul-right {m = columns (a .s) - length es} {n = columns (a .s)} (a .s .l) (omega arith),
       c .before .head-length .ensures,
-      head-most (a .s) es (omega (arith, few, d .0 .data-most, d .0 .parity-most)),
+      head-most (a .s) es (omega (arith, few, d .0 .columns-most)),
     )
 
 unwritten-requires-4 : tie.Need-unwritten-requires-4

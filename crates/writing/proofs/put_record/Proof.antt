@@ -25,7 +25,7 @@ add-put-columns c =
     let a = start .args in
     let w = writable (a .s) (now (a .stripe)) (now (a .lost)) (length (now (a .out))) (start .pre) in
     let d = described (a .s) (w .stripe-described) .0 in
-    omega (arith, d .data-most, d .parity-most)
+    omega (arith, d .columns-most)
 
 put-columns-requires : tie.Need-put-columns-requires
 put-columns-requires c κs =

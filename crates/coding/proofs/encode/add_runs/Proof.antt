@@ -54,7 +54,7 @@ loop-holds c =
       search needs,
       omega (arith, f .gains),
       f .is,
-      column-start (s .args .s) _ _ _ (f .is) (f .some) _ (s .pre .1 .1 .1),
+      column-start (s .args .s) _ _ _ (f .rows) (f .is) (f .some) _ (s .pre .1 .1 .1),
       record { long = refl; outside = λ x h. refl },
     )
 
@@ -104,8 +104,8 @@ loop-again c =
       search needs,
       search needs,
       at .inv .2,
-      column-turn (a .s) _ (a .i) m (f .is) (f .some) (at .j) (at .out) _ (at .inv .0) (here t .run) g (at .inv .3),
-      beside-turn (a .s) _ (a .i) m (f .is) (f .some) (at .j) (at .out) _ (at .inv .0) (here t .run) g _ (at .inv .4),
+      column-turn (a .s) _ (a .i) m (f .rows) (f .is) (f .some) (at .j) (at .out) _ (at .inv .0) (here t .run) g (at .inv .3),
+      beside-turn (a .s) _ (a .i) m (f .rows) (f .is) (f .some) (at .j) (at .out) _ (at .inv .0) (here t .run) g _ (at .inv .4),
     )
 
 same-length : tie.Need-same-length Inv-loop μ-loop

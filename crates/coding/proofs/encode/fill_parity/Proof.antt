@@ -1,53 +1,37 @@
--- `fill_parity` meets its contract: rows are the parity of a plain stripe, rows and piggybacks of a prepared one.
-use mathlib.Core.Path.{_≡_, ap, _∙_}
-use native.Mathlib.Omega.{arith}
-use lib.ListN.{length}
+-- `fill_parity` meets its contract: with r above 3 by points, else by rows.
 use borrow.Author.Needs.{needs}
-use Rattle.coding.specs.Encode.{encodeRefusal}
-use Rattle.coding.proofs.Encoded.{rows-filled, rows-are, plain-exact, prepared-exact}
+use Rattle.stripe.proofs.Allowed.{allowed, few-by-rows, many-by-points}
+use Rattle.stripe.proofs.Lent.{lent}
 use Rattle.coding.proofs.encode.fill_parity.Statement.{statement}
 use Rattle.coding.proofs.encode.fill_parity.Tie as tie
 
-fill-rows-requires : tie.Need-fill-rows-requires
-fill-rows-requires c κs = search needs
+fill-by-points-requires : tie.Need-fill-by-points-requires
+fill-by-points-requires c κs =
+    let s = c .before .before .before .before .before in
+    (s .pre, many-by-points (s .args .s) (c .before .if1 .taken) (allowed (s .args .s) (lent (s .args .s) _ _ (s .pre) .shape) .parity-most))
 
 same-length : tie.Need-same-length
 same-length c = search needs
 
 returns : tie.Need-returns
-returns c =
-    let s = c .before .before .before .before .before .before .before in
-    let ps = c .before .before .before .fill-rows .last .1 .1 .1 .1 .0 in
-    let same : length ps ≡ length (s .args .out .now) = search needs in
-    plain-exact (s .args .s) _ (s .args .out .now) ps (s .pre) same (omega arith)
-    (rows-filled (s .args .s) _ _ ps (s .pre) (c .before .before .before .fill-rows .ensures))
+returns c = search needs
 
-add-piggybacks-requires : tie.Need-add-piggybacks-requires
-add-piggybacks-requires c κs =
-    let s = c .before .before .before .before .before .before .before .before in
-    let ps = c .before .before .before .before .fill-rows .last .1 .1 .1 .1 .0 in
-    let same : length ps ≡ length (s .args .out .now) = search needs in (
-      ap (encodeRefusal (s .args .s) (length (s .args .«data» .now))) same ∙ s .pre,
-      (omega arith, rows-are (s .args .s) _ ps (rows-filled (s .args .s) _ _ ps (s .pre) (c .before .before .before .before .fill-rows .ensures))),
-    )
+fill-by-rows-requires : tie.Need-fill-by-rows-requires
+fill-by-rows-requires c κs = let s = c .before .before .before .before .before in (s .pre, few-by-rows (s .args .s) (c .before .if1 .left))
 
 same-length-2 : tie.Need-same-length-2
 same-length-2 c = search needs
 
 returns-2 : tie.Need-returns-2
-returns-2 c =
-    let s = c .before .before .before .before .before .before .before .before .before .before .before in
-    let qs = c .before .before .add-piggybacks .last .1 .1 .0 in
-    let same : length qs ≡ length (s .args .out .now) = search needs in
-    prepared-exact (s .args .s) _ (s .args .out .now) qs (s .pre) same (c .before .before .add-piggybacks .ensures)
+returns-2 c = search needs
 
 pub fill-parity-spec : {M : Type 1} → statement M
 fill-parity-spec =
     tie.close
     (tie.spec
-    fill-rows-requires
+    fill-by-points-requires
     same-length
     returns
-    add-piggybacks-requires
+    fill-by-rows-requires
     same-length-2
     returns-2)

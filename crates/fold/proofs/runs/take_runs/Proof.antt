@@ -9,7 +9,7 @@ use borrow.Author.Needs.{needs}
 use Rattle.stripe.proofs.Allowed.{allowed}
 use Rattle.stripe.specs.Shape.{mostRows}
 use Rattle.lanes.proofs.Parts.{part-length}
-use Rattle.plan.proofs.Foldable.{new-limit}
+use Rattle.plan.proofs.Foldable.{new-few}
 use Rattle.plan.proofs.Bounds.{fits, data-small}
 use Rattle.fold.proofs.Filling.{TakenTo, take-start, take-done, row-lt, number-lt, cut-in, cut-within, cut-turn}
 use Rattle.fold.proofs.runs.take_runs.Statement.{statement}
@@ -32,7 +32,7 @@ mul-all c =
     let z = c .before .before .before .before .before in
     let a = allowed _ (z .pre .0 .shape) in
     let r = subst (λ (x : ℕ). x ≤ mostRows) (sym (c .before .runs .ensures)) (a .runs-most) in
-    fits _ (omega (arith, mul-le-mul {n₂ = mostRows} (new-limit (z .args .s) (z .args .f) (z .pre .0 .shape) (z .pre .0 .new)) r))
+    fits _ (omega (arith, mul-le-mul {n₂ = mostRows} (new-few (z .args .s) (z .args .f) (z .pre .0 .shape) (z .pre .0 .new) (z .pre .0 .rows)) r))
 
 loop-holds : tie.Need-loop-holds Inv-loop μ-loop
 loop-holds c =
@@ -87,7 +87,7 @@ share-of-requires c κs =
     let t = c .loop-test .taken in (
       z .pre .0 .shape,
       (
-        let w = new-limit (z .args .s) (z .args .f) (z .pre .0 .shape) (z .pre .0 .new) in
+        let w = new-few (z .args .s) (z .args .f) (z .pre .0 .shape) (z .pre .0 .new) (z .pre .0 .rows) in
             omega (
               arith,
               row-lt (z .args .s) (z .args .f) (z .pre .0) (z .args .first) (now (z .args .d)) (now (z .args .rows)) (now (z .args .parity))
@@ -124,7 +124,7 @@ mul-take-share c =
     let qe = c .before .before .before .before .run-length .ensures in
     let l = c .before .before .before .loop in
     let t = c .before .before .loop-test .taken in
-    let w = new-limit (z .args .s) (z .args .f) (z .pre .0 .shape) (z .pre .0 .new) in
+    let w = new-few (z .args .s) (z .args .f) (z .pre .0 .shape) (z .pre .0 .new) (z .pre .0 .rows) in
     let j = row-lt (z .args .s) (z .args .f) (z .pre .0) (z .args .first) (now (z .args .d)) (now (z .args .rows)) (now (z .args .parity)) (z .pre .1 .1 .0) _ _
     ce qe (l .i) t in
     let h : l .i / (c .before .before .before .before .before .runs .result) ≤ mostRows = omega (arith, j) in
@@ -148,7 +148,7 @@ add-i c =
     let t = c .before .before .before .before .before .loop-test .taken in
     let a = allowed _ (z .pre .0 .shape) in
     let r = subst (λ (x : ℕ). x ≤ mostRows) (sym (c .before .before .before .before .before .before .before .before .runs .ensures)) (a .runs-most) in
-    fits _ (omega (arith, t, mul-le-mul {n₂ = mostRows} (new-limit (z .args .s) (z .args .f) (z .pre .0 .shape) (z .pre .0 .new)) r))
+    fits _ (omega (arith, t, mul-le-mul {n₂ = mostRows} (new-few (z .args .s) (z .args .f) (z .pre .0 .shape) (z .pre .0 .new) (z .pre .0 .rows)) r))
 
 loop-less : tie.Need-loop-less Inv-loop μ-loop
 loop-less c = let t = c .before .before .before .before .before .loop-test .taken in omega (arith, t)

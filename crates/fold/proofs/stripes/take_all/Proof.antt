@@ -97,8 +97,8 @@ loop-again c =
         k .kept .1 .1 .1 .1 .0 ∙ l .inv .1 .0,
         (
           k .kept .1 .1 .1 .1 .1 .0 ∙ l .inv .1 .1 .0,
-          λ _. sum-turn (z .args .s) (z .args .f) _ (z .args .n) (now (z .args .d)) (λ i. shared-slice-known .given i .fits) (l .l - 1) _ _ h before
-              (k .ensures),
+          λ _. sum-turn (z .args .s) (z .args .f) _ (z .args .n) (z .pre .0 .rows) (now (z .args .d)) (λ i. shared-slice-known .given i .fits) (l .l - 1) _ _ h
+              before (k .ensures),
         ),
       ),
     )
@@ -114,7 +114,7 @@ returns c =
     let z = c .before .before .before .before .before in
     let some : c .before .loop .l < z .args .n = let g = foldable _ _ _ (z .pre .1 .0) .stripes-some in let t = c .loop-test .left in omega arith in
     all-taken (z .args .s) (z .args .n) (z .args .f) (now (z .args .d)) (z .pre .1 .0) (z .pre .1 .1 .0) _ (sum-done (z .args .s) (z .args .f) _ (z .args .n)
-    (now (z .args .d)) (λ i. c .before .before .before .before .shared-slice-known .given i .fits) _ _ (c .loop-test .left)
+    (z .pre .0 .rows) (now (z .args .d)) (λ i. c .before .before .before .before .shared-slice-known .given i .fits) _ _ (c .loop-test .left)
     (c .before .loop .inv .1 .1 .1 some))
 
 pub take-all-spec : {M : Type 1} → statement M

@@ -11,11 +11,11 @@ use Rattle.matrix.proofs.one.lists.Statement.{statement}
 use Rattle.matrix.proofs.one.lists.Tie as tie
 
 abbrev Inv-loop : tie.InvT-loop
-Inv-loop ls₀ ns₀ weights p₀ b₀ ls ns p b =
-    (b ≤ 8) × (length ls ≡ 2048) × (length ns ≡ 8) × (length p ≡ 256) × Rest weights b p × Lists weights b ns ls
+Inv-loop ls₀ ns₀ weights cs p₀ b₀ ls ns p b =
+    (b ≤ 8) × (length ls ≡ 2048) × (length ns ≡ 8) × (length p ≡ 256) × Rest weights b p × Lists weights cs b ns ls
 
 abbrev μ-loop : tie.MeasureT-loop
-μ-loop ls₀ ns₀ weights p₀ b₀ ls ns p b = 8 - b
+μ-loop ls₀ ns₀ weights cs p₀ b₀ ls ns p b = 8 - b
 
 slice-aggregate-copy : tie.Need-slice-aggregate-copy Inv-loop μ-loop
 slice-aggregate-copy c = search needs
@@ -64,7 +64,7 @@ loop-again c =
       length-set (at .ns) (at .b) (c .before .before .before .before .before .odd .result) ∙ at .inv .2,
       search needs,
       rest-turn _ _ _ (at .b) (omega (arith, at .inv .3)) (c .before .halve .ensures) (at .inv .4),
-      lists-turn _ _ _ _ _ (at .b) _ (omega arith) (omega (arith, at .inv .2)) (at .inv .4) (at .inv .5) (o .0) (o .1),
+      lists-turn _ _ _ _ _ _ (at .b) _ (omega arith) (omega arith) (omega (arith, at .inv .2)) (at .inv .4) (at .inv .5) (o .0) (o .1),
     )
 
 same-length : tie.Need-same-length Inv-loop μ-loop

@@ -7,10 +7,10 @@ use native.Mathlib.Omega.{arith}
 use lib.ListN.{length}
 use Rattle.stripe.proofs.Allowed.{allowed}
 use Rattle.stripe.proofs.Errors.{points}
-use Rattle.stripe.specs.Shape.{mostParity, mostLength, mostParityLength}
+use Rattle.stripe.specs.Shape.{mostRows, mostLength, mostRowsLength}
 use Rattle.mending.specs.Slots.{Sources, Gathered}
 use Rattle.mending.specs.System.{less, gone}
-use Rattle.mending.proofs.Posed.{first-few, step-few}
+use Rattle.mending.proofs.Posed.{few-rows, first-few, step-few}
 use Rattle.mending.proofs.Added.{slot-ends}
 use Rattle.mending.proofs.Settled.{skip-settles, finish-sources, row-settles}
 use Rattle.mending.proofs.settle.settle_row.Statement.{statement}
@@ -33,8 +33,8 @@ mul-add-row c =
     let start = c .before .before .before .before in
     let w = start .pre in
     let f = allowed (start .args .s) (w .0 .shape) in
-    let most : start .args .j * start .args .s .l ≤ mostParityLength = mul-le-mul {n₂ = mostParity} {m₂ = mostLength} (omega (arith, w .1, f .parity-most))
-    (f .length-most) in
+    let few = few-rows (start .args .s) f (start .args .p) (w .0 .posed) in
+    let most : start .args .j * start .args .s .l ≤ mostRowsLength = mul-le-mul {n₂ = mostRows} {m₂ = mostLength} (omega (arith, w .1, few)) (f .length-most) in
     omega arith
 
 add-row-requires : tie.Need-add-row-requires
@@ -47,7 +47,7 @@ add-row-requires c κs =
       (
         omega arith,
         (
-          omega (arith, w .1, f .parity-most),
+          omega (arith, w .1, few-rows (a .s) f (a .p) (w .0 .posed)),
           (
             omega arith,
             subst (λ (z : ℕ). Sources (a .p .count) (a .j * a .s .l) z (a .p .step * a .s .l) (a .s .l) (length (a .slots .now))) (sym (add-zero _))
@@ -62,11 +62,11 @@ clean-requires c κs =
     let a = c .before .before .before .before .before .before .before .before .args in
     let w = c .before .before .before .before .before .before .before .before .pre in
     let f = allowed (a .s) (w .0 .shape) in (
-      w .0 .posed .few,
+      omega (arith, w .0 .posed .few),
       (
         f .data-most,
         (
-          omega (arith, w .1, f .parity-most),
+          omega (arith, w .1, few-rows (a .s) f (a .p) (w .0 .posed)),
           omega (arith, slot-ends (a .s) f (a .p) (w .0 .posed) (a .j) (w .1), c .before .before .before .add-row .ensures .long, w .0 .long),
         ),
       ),

@@ -9,7 +9,6 @@ use Rattle.mending.proofs.Settled.{solver-turn}
 use Rattle.mending.proofs.settle.solves.Statement.{statement}
 use Rattle.mending.proofs.settle.solves.Tie as tie
 use Rattle.stripe.specs.Shape.{mostRows}
-use Rattle.lost.specs.Lost.{capacity}
 
 abbrev Inv-loop : tie.InvT-loop
 Inv-loop p j v₀ v = (v ≤ p .count) × ((u : ℕ) → u < v → p .first + p .step * u ≡ j → ⊥)
@@ -24,7 +23,7 @@ mul-if2 : tie.Need-mul-if2 Inv-loop μ-loop
 mul-if2 c =
     let start = c .before .before .before .before in
     let loop = c .before .before .before .loop in
-    let most : start .args .p .step * loop .v ≤ mostRows * capacity = mul-le-mul {m₂ = capacity} (start .pre .1 .1)
+    let most : start .args .p .step * loop .v ≤ mostRows * mostRows = mul-le-mul {m₂ = mostRows} (start .pre .1 .1)
     (omega (arith, loop .inv .0, start .pre .0)) in
     omega arith
 
@@ -32,7 +31,7 @@ add-if2 : tie.Need-add-if2 Inv-loop μ-loop
 add-if2 c =
     let start = c .before .before .before .before .before in
     let loop = c .before .before .before .before .loop in
-    let most : start .args .p .step * loop .v ≤ mostRows * capacity = mul-le-mul {m₂ = capacity} (start .pre .1 .1)
+    let most : start .args .p .step * loop .v ≤ mostRows * mostRows = mul-le-mul {m₂ = mostRows} (start .pre .1 .1)
     (omega (arith, loop .inv .0, start .pre .0)) in
     omega (arith, start .pre .1 .0)
 

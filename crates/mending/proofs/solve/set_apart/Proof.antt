@@ -9,17 +9,17 @@ use Rattle.field.specs.Field.{_⊕_, _⊗_}
 use Rattle.mending.proofs.Filled.{filled-turn}
 use Rattle.mending.proofs.solve.set_apart.Statement.{statement}
 use Rattle.mending.proofs.solve.set_apart.Tie as tie
-use Rattle.lost.specs.Lost.{capacity}
+use Rattle.stripe.specs.Shape.{mostRows}
 
 -- x is the weight of point u + 1 set apart
 abbrev Apart : List ℕ → List ℕ → ℕ → ℕ → Type 0
 Apart bs ws u x = u + 1 < length bs → x ≡ getD ws (u + 1) 0 ⊗ (getD bs (u + 1) 0 ⊕ getD bs 0 0)
 
 abbrev Inv-loop : tie.InvT-loop
-Inv-loop points weights w₀ v₀ w v = (v ≤ capacity) × ((length w ≡ capacity) × ((u : ℕ) → u < v → Apart points weights u (getD w u 0)))
+Inv-loop points weights w₀ v₀ w v = (v ≤ mostRows) × ((length w ≡ mostRows) × ((u : ℕ) → u < v → Apart points weights u (getD w u 0)))
 
 abbrev μ-loop : tie.MeasureT-loop
-μ-loop points weights w₀ v₀ w v = capacity - v
+μ-loop points weights w₀ v₀ w v = mostRows - v
 
 loop-holds : tie.Need-loop-holds Inv-loop μ-loop
 loop-holds c = (search needs, (refl, λ u l. absurd (omega arith)))

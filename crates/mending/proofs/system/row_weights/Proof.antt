@@ -11,17 +11,17 @@ use Rattle.mending.proofs.Posed.{weights-done}
 use Rattle.mending.proofs.system.row_weights.Statement.{statement}
 use Rattle.mending.proofs.system.row_weights.Tie as tie
 use Rattle.mending.specs.declared.system.System.{System}
-use Rattle.lost.specs.Lost.{capacity}
+use Rattle.stripe.specs.Shape.{mostRows}
 
 -- g is the weight of lost column u
 abbrev Weighs : System → ℕ → ℕ → ℕ → ℕ → Type 0
 Weighs p x j u g = u < p .count → g ≡ gpow ((getD (p .lost .at) u 0 - x) * j)
 
 abbrev Inv-loop : tie.InvT-loop
-Inv-loop p x j w₀ v₀ w v = (v ≤ capacity) × ((length w ≡ capacity) × ((u : ℕ) → u < v → Weighs p x j u (getD w u 0)))
+Inv-loop p x j w₀ v₀ w v = (v ≤ mostRows) × ((length w ≡ mostRows) × ((u : ℕ) → u < v → Weighs p x j u (getD w u 0)))
 
 abbrev μ-loop : tie.MeasureT-loop
-μ-loop p x j w₀ v₀ w v = capacity - v
+μ-loop p x j w₀ v₀ w v = mostRows - v
 
 loop-holds : tie.Need-loop-holds Inv-loop μ-loop
 loop-holds c = (search needs, (refl, λ u l. absurd (omega arith)))

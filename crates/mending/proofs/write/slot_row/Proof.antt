@@ -8,18 +8,17 @@ use borrow.Author.Tests.{lt-ltb, le-ltb}
 use Rattle.mending.proofs.write.slot_row.Statement.{statement}
 use Rattle.mending.proofs.write.slot_row.Tie as tie
 use Rattle.stripe.specs.Shape.{mostRows}
-use Rattle.lost.specs.Lost.{capacity}
 
 mul-result : tie.Need-mul-result
 mul-result c =
     let start = c .before .before .before in
-    let most : start .args .p .step * start .args .v ≤ mostRows * capacity = mul-le-mul (start .pre .1 .0) (start .pre .1 .1 .0) in
+    let most : start .args .p .step * start .args .v ≤ mostRows * mostRows = mul-le-mul (start .pre .1 .0) (start .pre .1 .1 .0) in
     omega arith
 
 add-result : tie.Need-add-result
 add-result c =
     let start = c .before .before .before .before in
-    let most : start .args .p .step * start .args .v ≤ mostRows * capacity = mul-le-mul (start .pre .1 .0) (start .pre .1 .1 .0) in
+    let most : start .args .p .step * start .args .v ≤ mostRows * mostRows = mul-le-mul (start .pre .1 .0) (start .pre .1 .1 .0) in
     omega (arith, start .pre .0)
 
 returns : tie.Need-returns

@@ -39,7 +39,7 @@ add-n c =
     let d = described (a .shape) (c .before .before .before .before .before .before .pre) in
     let vm = c .before .before .value-of .ensures in
     let vf = c .before .next-of .ensures in
-    omega (arith, d .0 .data-most, d .0 .parity-most)
+    omega (arith, d .0 .columns-most)
 
 returns-2 : tie.Need-returns-2
 returns-2 c =

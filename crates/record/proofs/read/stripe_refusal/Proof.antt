@@ -16,7 +16,7 @@ returns c = stripe-shape (c .before .before .args .s) (c .before .refusal .resul
 add-if2 : tie.Need-add-if2
 add-if2 c =
     let w = allowed (c .before .before .before .args .s) (sym (c .before .before .refusal .ensures) ∙ c .before .if1 .left) in
-    omega (arith, w .data-most, w .parity-most)
+    omega (arith, w .columns-most)
 
 mul-if2 : tie.Need-mul-if2
 mul-if2 c =

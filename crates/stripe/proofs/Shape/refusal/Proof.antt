@@ -1,8 +1,12 @@
 -- `Shape::refusal` meets its contract: each test decides one part of the definition.
-use mathlib.Core.Path.{sym, _∙_}
+use mathlib.Core.Path.{sym, ap, _∙_}
+use mathlib.Core.Bool.{Bool, _||_, true≢false}
+use Prim.Native.Nat.{_+_}
+use lib.Dec.{leb}
+use native.Mathlib.Omega.{arith}
 use borrow.Author.Needs.{needs}
 use borrow.Author.Tests.{le-leb, lt-leb, not-true, not-false}
-use Rattle.stripe.specs.Shape.{shapeRefusal}
+use Rattle.stripe.specs.Shape.{shapeRefusal, mostRows, mostPoints}
 use Rattle.stripe.proofs.Shape.refusal.Statement.{statement}
 use Rattle.stripe.proofs.Shape.refusal.Tie as tie
 
@@ -29,22 +33,19 @@ returns-4 c =
       lt-leb _ _ (c .if4 .taken),
     )
 
-mark-allowed-requires : tie.Need-mark-allowed-requires
-mark-allowed-requires c κs = search needs
+points-allowed-requires : tie.Need-points-allowed-requires
+points-allowed-requires c κs = (omega (arith, c .before .before .if2 .left), omega (arith, c .if4 .left))
 
 returns-5 : tie.Need-returns-5
-unfolding shapeRefusal
 returns-5 c =
-    simp (
-      le-leb _ _ (c .before .before .before .before .before .if1 .left),
-      le-leb _ _ (c .before .before .before .before .if2 .left),
-      le-leb _ _ (c .before .before .before .if3 .left),
-      le-leb _ _ (c .before .before .if4 .left),
-      sym (c .before .mark-allowed .ensures) ∙ not-true _ (c .if5 .taken),
-    )
+    let s = c .before .before .before .before .before .before .args .self in
+    absurd
+    (true≢false
+    (sym (ap (λ (b : Bool). b || leb (s .k + s .r) mostPoints) (le-leb _ mostRows (c .before .before .if4 .left)))
+    ∙ sym (c .before .points-allowed .ensures) ∙ not-true _ (c .if5 .taken)))
 
-length-allowed-requires : tie.Need-length-allowed-requires
-length-allowed-requires c κs = search needs
+mark-allowed-requires : tie.Need-mark-allowed-requires
+mark-allowed-requires c κs = search needs
 
 returns-6 : tie.Need-returns-6
 unfolding shapeRefusal
@@ -54,20 +55,34 @@ returns-6 c =
       le-leb _ _ (c .before .before .before .before .before .before .if2 .left),
       le-leb _ _ (c .before .before .before .before .before .if3 .left),
       le-leb _ _ (c .before .before .before .before .if4 .left),
-      sym (c .before .before .before .mark-allowed .ensures) ∙ not-false _ (c .before .before .if5 .left),
-      sym (c .before .length-allowed .ensures) ∙ not-true _ (c .if6 .taken),
+      sym (c .before .mark-allowed .ensures) ∙ not-true _ (c .if6 .taken),
     )
+
+length-allowed-requires : tie.Need-length-allowed-requires
+length-allowed-requires c κs = search needs
 
 returns-7 : tie.Need-returns-7
 unfolding shapeRefusal
 returns-7 c =
     simp (
-      le-leb _ _ (c .before .before .before .before .before .before .before .if1 .left),
-      le-leb _ _ (c .before .before .before .before .before .before .if2 .left),
-      le-leb _ _ (c .before .before .before .before .before .if3 .left),
-      le-leb _ _ (c .before .before .before .before .if4 .left),
-      sym (c .before .before .before .mark-allowed .ensures) ∙ not-false _ (c .before .before .if5 .left),
-      sym (c .before .length-allowed .ensures) ∙ not-false _ (c .if6 .left),
+      le-leb _ _ (c .before .before .before .before .before .before .before .before .before .if1 .left),
+      le-leb _ _ (c .before .before .before .before .before .before .before .before .if2 .left),
+      le-leb _ _ (c .before .before .before .before .before .before .before .if3 .left),
+      le-leb _ _ (c .before .before .before .before .before .before .if4 .left),
+      sym (c .before .before .before .mark-allowed .ensures) ∙ not-false _ (c .before .before .if6 .left),
+      sym (c .before .length-allowed .ensures) ∙ not-true _ (c .if7 .taken),
+    )
+
+returns-8 : tie.Need-returns-8
+unfolding shapeRefusal
+returns-8 c =
+    simp (
+      le-leb _ _ (c .before .before .before .before .before .before .before .before .before .if1 .left),
+      le-leb _ _ (c .before .before .before .before .before .before .before .before .if2 .left),
+      le-leb _ _ (c .before .before .before .before .before .before .before .if3 .left),
+      le-leb _ _ (c .before .before .before .before .before .before .if4 .left),
+      sym (c .before .before .before .mark-allowed .ensures) ∙ not-false _ (c .before .before .if6 .left),
+      sym (c .before .length-allowed .ensures) ∙ not-false _ (c .if7 .left),
     )
 
 pub refusal-spec : {M : Type 1} → statement M
@@ -78,8 +93,10 @@ refusal-spec =
     returns-2
     returns-3
     returns-4
-    mark-allowed-requires
+    points-allowed-requires
     returns-5
-    length-allowed-requires
+    mark-allowed-requires
     returns-6
-    returns-7)
+    length-allowed-requires
+    returns-7
+    returns-8)

@@ -1,0 +1,4 @@
+pub mod Away
+pub mod Lanes
+pub mod Filled
+pub mod Unique

@@ -1,0 +1,56 @@
+-- `apart` meets its contract: after q turns the q first lanes are done.
+use Prim.Native.Nat.{ℕ, _-_, _<_, _≤_}
+use mathlib.Core.Path.{_≡_, refl}
+use native.Mathlib.Nat.{not-suc-le-zero}
+use native.Mathlib.Omega.{arith}
+use lib.ListN.{length, getD}
+use borrow.Author.Needs.{needs}
+use Rattle.field.specs.Field.{_⊕_}
+use Rattle.lagrange.proofs.Lanes.{set-turn}
+use Rattle.lagrange.proofs.apart.Statement.{statement}
+use Rattle.lagrange.proofs.apart.Tie as tie
+
+abbrev Inv-loop : tie.InvT-loop
+Inv-loop y b d₀ q₀ d q = (q ≤ 16) × (length d ≡ 16) × ((i : ℕ) → i < q → getD d i 0 ≡ getD y i 0 ⊕ b)
+
+abbrev μ-loop : tie.MeasureT-loop
+μ-loop y b d₀ q₀ d q = 16 - q
+
+loop-holds : tie.Need-loop-holds Inv-loop μ-loop
+loop-holds c = (search needs, search needs, λ i h. absurd (not-suc-le-zero h))
+
+element-copy-out-d : tie.Need-element-copy-out-d Inv-loop μ-loop
+element-copy-out-d c = search needs
+
+array-write-d : tie.Need-array-write-d Inv-loop μ-loop
+array-write-d c = search needs
+
+add-q : tie.Need-add-q Inv-loop μ-loop
+add-q c = search needs
+
+loop-less : tie.Need-loop-less Inv-loop μ-loop
+loop-less c = search needs
+
+loop-again : tie.Need-loop-again Inv-loop μ-loop
+unfolding _⊕_
+loop-again c =
+    let at = c .before .before .loop in
+    let a = c .before .before .before .args in
+    (search needs, search needs, set-turn (at .d) (λ i. getD (a .y .now) i 0 ⊕ a .b) (at .q) _ (omega arith) refl (at .inv .2))
+
+returns : tie.Need-returns Inv-loop μ-loop
+returns c = (search needs, λ q h. c .before .loop .inv .2 q (omega (arith, c .loop-test .left)))
+
+pub apart-spec : {M : Type 1} → statement M
+apart-spec =
+    tie.close
+    (tie.spec
+    Inv-loop
+    μ-loop
+    loop-holds
+    element-copy-out-d
+    array-write-d
+    add-q
+    loop-less
+    loop-again
+    returns)

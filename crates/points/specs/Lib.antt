@@ -1,0 +1,4 @@
+pub mod Points
+pub mod Mending
+pub mod Folding
+pub mod Lagrange

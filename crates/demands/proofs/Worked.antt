@@ -24,7 +24,8 @@ use Rattle.stripe.proofs.Codewords.{codeword-of}
 use Rattle.lost.specs.Positions.{positions, listRefusal}
 use Rattle.mending.specs.Mend.{mendRefusal, Restored, Mended}
 use Rattle.plan.specs.Plan.{foldRefusal, kindOf, columnSpans, kindSpans, spansFrom, plan, columnsEach, bytesEach, columnsRead, bytesRead}
-use Rattle.fold.specs.Fold.{foldByRows, readParity, readRow, runShare, share, foldByte, foldStripes, parts, foldOf, named, cutOut}
+use Rattle.fold.specs.Fold.{foldByRows, readParity, readRow, runShare, share, foldByte, foldStripes, foldOf, named, cutOut}
+use Rattle.points.specs.Folding.{parts}
 use Rattle.number.specs.Number.{groups, groupsAt}
 use Rattle.record.specs.Reading.{firstOf, headRefusal, contentRefusal, positionsRefusal, afterPositions, stripeRefusal, readRefusal}
 use Rattle.demands.specs.Worked.{shape, stale, accepted, Holds, AllHold, worked}

@@ -11,7 +11,7 @@ use borrow.Rule.Slice.PartMut.{midOf, mid-len}
 use Rattle.field.specs.Bytes.{tabulate}
 use Rattle.field.proofs.Bytes.{tabulate-length, tabulate-at}
 use Rattle.points.specs.Lagrange.{dot}
-use Rattle.points.specs.Folding.{foldParity, parts as listParts}
+use Rattle.points.specs.Folding.{foldParity, parts}
 use Rattle.stripe.specs.declared.Shape.{Shape}
 use Rattle.stripe.specs.Shape.{mostRows}
 use Rattle.stripe.specs.Stripe.{across, byPoints}
@@ -29,7 +29,7 @@ use Rattle.plan.specs.declared.Kind.the-variants.{A, B, C}
 use Rattle.plan.specs.Plan.{foldRefusal, kindOf, bytesEach, bytesRead}
 use Rattle.plan.proofs.Foldable.{IsA, IsB, IsC, Foldable, foldable}
 use Rattle.plan.proofs.Costs.{bytes-read}
-use Rattle.fold.specs.Fold.{parts, foldOf}
+use Rattle.fold.specs.Fold.{foldOf}
 use Rattle.fold.specs.Shares.{ReadsColumns}
 use Rattle.fold.proofs.Laws.{stripes-columns, fold-is, fold-length}
 
@@ -99,21 +99,7 @@ reads-columns s n f a b passed many kind read-long parity-long =
 
 -- ---- buffers
 
--- the first n bytes of a buffer
-pub front-length : (xs : List ℕ) (n : ℕ) → n ≤ length xs → length (midOf 0 (n - 0) xs) ≡ n
-front-length xs n h = omega (arith, mid-len 0 n xs h)
-
--- the columns in order, filled into the first places of a buffer
-pub order-filled : (k : ℕ) (zs ys : List ℕ) → k ≤ length zs → ys ≡ tabulate (length (midOf 0 (k - 0) zs)) (λ i. i % 256) → ys ≡ tabulate k (λ i. i % 256)
-order-filled k zs ys h is = is ∙ ap (λ (n : ℕ). tabulate n (λ i. i % 256)) (front-length zs k h)
-
 -- ---- the fold's answer
-
--- lists cut into parts are the same in both crates
-parts-same : (m n : ℕ) (xs : List ℕ) → parts m n xs ≡ listParts m n xs
-unfolding parts listParts
-parts-same m zero xs = refl
-parts-same m (suc n) xs = ap (λ (yss : List (List ℕ)). take m xs ∷ yss) (parts-same m n (drop m xs))
 
 module _ (s : Shape) (n : ℕ) (xs ps : List ℕ) (reads : ReadsColumns s n (length xs) (length ps)) where
   abbrev order : List ℕ
@@ -152,15 +138,15 @@ module _ (s : Shape) (n : ℕ) (xs ps : List ℕ) (reads : ReadsColumns s n (len
         out = reads .parity-long;
       }
 
-  answer-columns : foldOf s n (s .r) xs ≡ foldColumns (s .k) (s .r) (s .l) (listParts (s .r * s .l) n xs)
+  answer-columns : foldOf s n (s .r) xs ≡ foldColumns (s .k) (s .r) (s .l) (parts (s .r * s .l) n xs)
   answer-columns =
       fold-is s n (s .r) xs ∙ stripes-columns s (s .r) _ (reads .points) (reads .kind)
       ∙ ap (foldColumns (s .k) (s .r) (s .l))
-      (ap (λ (m : ℕ). parts m n xs) (each-long s n (length xs) (length ps) reads) ∙ parts-same (s .r * s .l) n xs)
+      (ap (λ (m : ℕ). parts m n xs) (each-long s n (length xs) (length ps) reads))
 
   columns-place : (i p : ℕ) → i < s .r → p < s .l
-      → getD (foldColumns (s .k) (s .r) (s .l) (listParts (s .r * s .l) n xs)) (i * s .l + p) 0
-      ≡ getD (foldParity (s .k) (s .r) (map (λ qs. across qs (s .l) p 0 (s .r)) (listParts (s .r * s .l) n xs))) i 0
+      → getD (foldColumns (s .k) (s .r) (s .l) (parts (s .r * s .l) n xs)) (i * s .l + p) 0
+      ≡ getD (foldParity (s .k) (s .r) (map (λ qs. across qs (s .l) p 0 (s .r)) (parts (s .r * s .l) n xs))) i 0
   unfolding foldColumns
   columns-place i p hi hp = columns-at (s .r) (s .l) _ i p hi hp
 

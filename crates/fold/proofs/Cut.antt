@@ -20,7 +20,8 @@ use Rattle.plan.specs.declared.Span.{Span}
 use Rattle.plan.specs.declared.Kind.{Kind}
 use Rattle.plan.specs.declared.Kind.the-variants.{A, B, C}
 use Rattle.plan.specs.Plan.{kindOf, foldRefusal, columnSpans, kindSpans, spansFrom, plan, bytesEach, bytesRead}
-use Rattle.fold.specs.Fold.{partBytes, parts, joined, named, cutOut, readOf}
+use Rattle.fold.specs.Fold.{partBytes, named, cutOut, readOf}
+use Rattle.points.specs.Folding.{parts, joined}
 use Rattle.plan.proofs.Foldable.{IsA, IsB, IsC, Foldable, foldable}
 use Rattle.fold.proofs.Prepared.{run-is, run-whole, each-is}
 use Rattle.plan.proofs.Counted.{runs-sum}

@@ -17,7 +17,8 @@ use Rattle.stripe.proofs.Places.{parity-exact}
 use Rattle.plan.specs.declared.Kind.{Kind}
 use Rattle.plan.specs.declared.Kind.the-variants.{C}
 use Rattle.plan.specs.Plan.{foldRefusal, kindOf, bytesEach, bytesRead, wideShape}
-use Rattle.fold.specs.Fold.{foldByte, parts, foldOf}
+use Rattle.fold.specs.Fold.{foldByte, foldOf}
+use Rattle.points.specs.Folding.{parts}
 use Rattle.plan.proofs.Foldable.{Foldable, foldable, wide-by-points, wide-allowed}
 use Rattle.plan.proofs.Costs.{bytes-read}
 use Rattle.fold.proofs.Cut.{joined-parts}

@@ -24,7 +24,8 @@ use Rattle.plan.specs.declared.Kind.{Kind}
 use Rattle.plan.specs.declared.Kind.the-variants.{A, B, C}
 use Rattle.plan.specs.Plan.{foldRefusal, kindOf, bytesEach, wideShape}
 use Rattle.plan.proofs.Foldable.{IsA, IsB, IsC, Foldable, foldable}
-use Rattle.fold.specs.Fold.{readParity, readRow, runShare, share, foldByte, foldByRows, joined, foldByPoints, foldStripes, parts, foldOf}
+use Rattle.fold.specs.Fold.{readParity, readRow, runShare, share, foldByte, foldByRows, foldByPoints, foldStripes, foldOf}
+use Rattle.points.specs.Folding.{joined, parts}
 
 -- ---- what a stripe adds
 

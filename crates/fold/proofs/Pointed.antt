@@ -9,7 +9,6 @@ use native.Mathlib.Omega.{arith}
 use lib.ListN.{length, getD, drop, length-map}
 use Rattle.field.specs.Bytes.{Bytes}
 use Rattle.field.proofs.Cases.{same-or-not}
-use Rattle.points.specs.Folding.{joined as listed}
 use Rattle.points.proofs.Folded.{each-from}
 use Rattle.stripe.specs.declared.Shape.{Shape}
 use Rattle.stripe.specs.Shape.{stripeLength}
@@ -22,21 +21,16 @@ use Rattle.plan.specs.declared.Kind.{Kind}
 use Rattle.plan.specs.declared.Kind.the-variants.{A, C}
 use Rattle.plan.specs.Plan.{kindOf, foldRefusal, plan, wideShape}
 use Rattle.plan.proofs.Foldable.{Foldable, foldable, wide-by-points}
-use Rattle.fold.specs.Fold.{foldStripes, foldOf, joined, wideData, cutOut, readOf, wideStripe}
+use Rattle.fold.specs.Fold.{foldStripes, foldOf, wideData, cutOut, readOf, wideStripe}
+use Rattle.points.specs.Folding.{joined}
 use Rattle.fold.proofs.Laws.{stripes-columns, stripes-data, fold-is}
 use Rattle.fold.proofs.Cut.{a-whole, c-whole, cut-parts}
 use Rattle.fold.proofs.Wide.{wide-data, wide-answer}
 
--- ---- lists joined are the same in both crates
-
-joined-same : (xss : List (List ℕ)) → joined xss ≡ listed xss
-unfolding joined listed
-joined-same [] = refl
-joined-same (xs ∷ xss) = ap (λ (ys : List ℕ). xs ++ ys) (joined-same xss)
-
+-- the data of all stripes in order
 data-same : (s : Shape) (zss : List (List ℕ)) → wideData s zss ≡ columnsData (s .k) (s .l) zss
 unfolding wideData columnsData
-data-same s zss = joined-same (map (λ zs. dataOf s zs) zss)
+data-same s zss = refl
 
 map-is : (g h : List ℕ → List ℕ) (zss : List (List ℕ)) → ((l : ℕ) → l < length zss → g (getD zss l []) ≡ h (getD zss l [])) → map g zss ≡ map h zss
 map-is g h [] e = refl

@@ -28,7 +28,8 @@ use Rattle.stripe.proofs.Places.{parity-of-at, parity-of-length, data-of-length
 use Rattle.stripe.proofs.Codewords.{codeword-of, codeword-checks}
 use Rattle.plan.specs.declared.Kind.{Kind}
 use Rattle.plan.specs.Plan.{kindOf, foldRefusal, plan, wideShape}
-use Rattle.fold.specs.Fold.{foldOf, joined, wideData, cutOut, wideStripe, disagreement, parityNamed, runCarried, carried}
+use Rattle.fold.specs.Fold.{foldOf, wideData, cutOut, wideStripe, disagreement, parityNamed, runCarried, carried}
+use Rattle.points.specs.Folding.{joined}
 use Rattle.plan.proofs.Foldable.{IsA, IsB, IsC, Foldable, foldable}
 use Rattle.fold.proofs.Prepared.{run-whole}
 use Rattle.fold.proofs.Laws.{fold-length, fold-bytes}

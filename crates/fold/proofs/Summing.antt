@@ -24,7 +24,8 @@ use Rattle.stripe.proofs.Lent.{within}
 use Rattle.plan.specs.Plan.{foldRefusal, kindOf, bytesEach, bytesRead}
 use Rattle.plan.proofs.Foldable.{foldable}
 use Rattle.plan.proofs.Costs.{bytes-read}
-use Rattle.fold.specs.Fold.{share, foldByte, foldStripes, parts, foldOf}
+use Rattle.fold.specs.Fold.{share, foldByte, foldStripes, foldOf}
+use Rattle.points.specs.Folding.{parts}
 use Rattle.fold.specs.Shares.{stays, taken}
 use Rattle.fold.proofs.Laws.{fold-none, fold-cons, stripes-length, stripes-place, fold-is}
 

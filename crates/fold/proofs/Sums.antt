@@ -19,7 +19,8 @@ use Rattle.stripe.specs.declared.Shape.{Shape}
 use Rattle.stripe.specs.Stripe.{across}
 use Rattle.stripe.proofs.Places.{across-length, across-first, place-lt}
 use Rattle.plan.specs.declared.Kind.the-variants.{C}
-use Rattle.fold.specs.Fold.{foldByte, joined}
+use Rattle.fold.specs.Fold.{foldByte}
+use Rattle.points.specs.Folding.{joined}
 use Rattle.fold.proofs.Laws.{share-c, fold-sum}
 use Rattle.fold.proofs.Cut.{at-front, at-rest}
 

@@ -18,7 +18,8 @@ use Rattle.stripe.proofs.Allowed.{plain-run-length}
 use Rattle.stripe.proofs.Places.{parity-below, data-of-length}
 use Rattle.plan.specs.declared.Kind.{Kind}
 use Rattle.plan.specs.Plan.{kindOf, foldRefusal, plan, wideShape}
-use Rattle.fold.specs.Fold.{share, foldByte, foldOf, joined, wideData, cutOut, readOf, wideStripe, disagreement, carried}
+use Rattle.fold.specs.Fold.{share, foldByte, foldOf, wideData, cutOut, readOf, wideStripe, disagreement, carried}
+use Rattle.points.specs.Folding.{joined}
 use Rattle.plan.proofs.Foldable.{Foldable, foldable, wide-by-points}
 use Rattle.fold.proofs.Laws.{fold-sum, fold-at}
 use Rattle.fold.proofs.Cut.{at-rest, joined-length, cut-parts, getD-read}

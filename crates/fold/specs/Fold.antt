@@ -8,6 +8,7 @@ use lib.ListN.{length, getD, take, drop}
 use Rattle.field.specs.Field.{_⊕_}
 use Rattle.field.specs.Bytes.{tabulate}
 use Rattle.field.specs.Row.{row}
+use Rattle.points.specs.Folding.{joined, parts}
 use Rattle.stripe.specs.declared.Shape.{Shape}
 use Rattle.stripe.specs.Stripe.{across, runLength, byPoints, parityByte, parity, dataOf, plainRuns}
 use Rattle.equations.specs.Whole.{foldColumns}
@@ -57,11 +58,6 @@ foldByRows s f xss = tabulate (f * s .l) (λ i. foldByte (kindOf s f) s xss (i /
 
 -- ---- r from 4 to 16: the code is given by check equations
 
--- lists one after the other
-unfoldable pub joined : List (List ℕ) → List ℕ
-joined [] = []
-joined (xs ∷ xss) = xs ++ joined xss
-
 -- the parity columns of the wide stripe. A: from the parity columns of each stripe. C: the parity of all data in order. B is by rows only
 unfoldable pub foldByPoints : Kind → Shape → ℕ → List (List ℕ) → List ℕ
 foldByPoints A s f xss = foldColumns (s .k) (s .r) (s .l) xss
@@ -73,11 +69,6 @@ foldByPoints C s f xss = parity (wideShape s (length xss) f) (joined xss)
 -- the parity columns of the wide stripe, in order, from the bytes read of each stripe
 unfoldable pub foldStripes : Shape → ℕ → List (List ℕ) → List ℕ
 foldStripes s f xss = cond (byPoints s) (foldByPoints (kindOf s f) s f xss) (foldByRows s f xss)
-
--- n parts of m bytes each
-unfoldable pub parts : ℕ → ℕ → List ℕ → List (List ℕ)
-parts m zero xs = []
-parts m (suc n) xs = take m xs ∷ parts m n (drop m xs)
 
 -- the fold's answer, from the joined bytes of the plan
 unfoldable pub foldOf : Shape → ℕ → ℕ → List ℕ → List ℕ

@@ -1,7 +1,8 @@
 -- `fill_by_points` meets its contract: the constants have room in either buffer.
 use native.Mathlib.Omega.{arith}
 use borrow.Author.Needs.{needs}
-use Rattle.fold.proofs.ByPoints.{columns-most, constants-most, front-length}
+use Rattle.coding.proofs.ByPoints.{front-length}
+use Rattle.fold.proofs.ByPoints.{columns-most, constants-most}
 use Rattle.fold.proofs.by_points.fill_by_points.Statement.{statement}
 use Rattle.fold.proofs.by_points.fill_by_points.Tie as tie
 

@@ -8,7 +8,8 @@ use Rattle.field.specs.Bytes.{tabulate}
 use Rattle.field.proofs.Bytes.{tabulate-length}
 use Rattle.matrix.specs.Matrix.{becomes}
 use Rattle.constants.proofs.Constants.{front-fits, front-read}
-use Rattle.fold.proofs.ByPoints.{columns-most, order-filled, columns-filled}
+use Rattle.coding.proofs.ByPoints.{order-filled}
+use Rattle.fold.proofs.ByPoints.{columns-most, columns-filled}
 use Rattle.fold.proofs.by_points.fill_columns.Statement.{statement}
 use Rattle.fold.proofs.by_points.fill_columns.Tie as tie
 

@@ -3,19 +3,17 @@ use mathlib.Core.Path.{_≡_, sym, ap, ap₂, subst, _∙_}
 use mathlib.Core.Bool.{Bool, true, false, cond, and-eq-true-iff}
 use mathlib.Core.List.{List}
 use mathlib.Core.Logic.{⊎-elim}
-use Prim.Native.Nat.{ℕ, suc, _+_, _-_, _*_, _<_, _≤_}
+use Prim.Native.Nat.{ℕ, _+_, _-_, _*_, _<_, _≤_}
 use native.Mathlib.Nat.{not-suc-le-zero}
 use native.Mathlib.Omega.{arith}
-use lib.ListN.{length, getD, drop}
+use lib.ListN.{length, getD}
 use borrow.Author.Tests.{leb-true, eqb-true}
-use Rattle.field.specs.Field.{_⊗_}
 use Rattle.field.proofs.Cases.{below-or-from}
 use Rattle.field.proofs.Bytes.{tabulate-length, tabulate-at}
-use Rattle.points.specs.Lagrange.{away, lagrange}
+use Rattle.points.specs.Lagrange.{lagrange}
 use Rattle.stripe.proofs.Places.{place-lt, place-column, place-byte, by-places}
 use Rattle.lagrange.specs.Weights.{weightsFit, weightsOf, weighed}
-use Rattle.lagrange.specs.Lanes.{lane, Below, Above, Constants, Laid, Filled}
-use Rattle.lagrange.proofs.Away.{lagrange-made}
+use Rattle.lagrange.specs.Lanes.{lane, Polynomials, Laid, Filled}
 
 -- ---- numbers that fit
 
@@ -37,16 +35,12 @@ pub filled-start : (bs ys out : List ℕ) → length out ≡ length bs * length 
 filled-start bs ys out long = record { long = long; at = λ v c h k. absurd (not-suc-le-zero k) }
 
 -- the w points from `at` on, one to a lane
-pub filled-turn : (bs cs ys y : List ℕ) {rows rows′ out out′ : List ℕ} (at w : ℕ) → w ≤ 16 → Constants bs cs
-    → ((q : ℕ) → q < w → getD y q 0 ≡ getD ys (at + q) 0) → Below bs y (length bs) rows → Above bs cs y 0 rows rows′
-    → Laid rows′ (length bs) (length ys) at w out out′ → Filled bs ys at out → Filled bs ys (at + w) out′
-filled-turn bs cs ys y {rows} {rows′} {out} {out′} at w few constants same below above laid h = record { long = laid .long ∙ h .long; at = made }
+pub filled-turn : (bs ys y : List ℕ) {rows out out′ : List ℕ} (at w : ℕ) → w ≤ 16 → ((q : ℕ) → q < w → getD y q 0 ≡ getD ys (at + q) 0)
+    → Polynomials bs y rows → Laid rows (length bs) (length ys) at w out out′ → Filled bs ys at out → Filled bs ys (at + w) out′
+filled-turn bs ys y {rows} {out} {out′} at w few same polynomials laid h = record { long = laid .long ∙ h .long; at = made }
   where
-    value : (v q : ℕ) → v < length bs → q < w → lane rows′ v q ≡ lagrange bs v (getD ys (at + q) 0)
-    value v q hv hq =
-        above .at v q (omega arith) hv (omega arith)
-        ∙ ap (λ (x : ℕ). getD cs v 0 ⊗ (x ⊗ away (drop (suc v) bs) (getD y q 0))) (below .at v q hv (omega arith))
-        ∙ lagrange-made bs v (getD y q 0) (getD cs v 0) (constants .at v hv) ∙ ap (lagrange bs v) (same q hq)
+    value : (v q : ℕ) → v < length bs → q < w → lane rows v q ≡ lagrange bs v (getD ys (at + q) 0)
+    value v q hv hq = polynomials .at v q hv (omega arith) ∙ ap (lagrange bs v) (same q hq)
 
     made : (v c : ℕ) → v < length bs → c < at + w → getD out′ (v * length ys + c) 0 ≡ lagrange bs v (getD ys c 0)
     made v c hv hc = ⊎-elim old new (below-or-from c at)

@@ -1,3 +1,4 @@
+pub mod Powers
 pub mod Away
 pub mod Lanes
 pub mod Filled

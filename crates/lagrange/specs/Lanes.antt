@@ -1,8 +1,8 @@
 -- Blocks of sixteen lanes: what the steps on the way to the weights leave in them.
-use Prim.Native.Nat.{ℕ, suc, _+_, _*_, _<_, _≤_}
+use Prim.Native.Nat.{ℕ, _+_, _*_, _<_}
 use mathlib.Core.Path.{_≡_}
 use mathlib.Core.List.{List}
-use lib.ListN.{length, getD, take, drop}
+use lib.ListN.{length, getD}
 use Rattle.field.specs.Field.{_⊗_, inverseOf}
 use Rattle.points.specs.Lagrange.{away, others, lagrange}
 
@@ -10,17 +10,21 @@ use Rattle.points.specs.Lagrange.{away, others, lagrange}
 abbrev pub lane : List ℕ → ℕ → ℕ → ℕ
 lane rows v q = getD rows (v * 16 + q) 0
 
--- each of the first n rows is the product of what each lane is apart from the points before the row's own
-pub record Below (bs ys : List ℕ) (n : ℕ) (rows : List ℕ) : Type 0 where
+-- each of the first n rows is its constant, in every lane
+pub record Spread (cs : List ℕ) (n : ℕ) (rows : List ℕ) : Type 0 where
   pub long : length rows ≡ 256
-  pub at : (v q : ℕ) → v < n → q < 16 → lane rows v q ≡ away (take v bs) (getD ys q 0)
+  pub at : (v q : ℕ) → v < n → q < 16 → lane rows v q ≡ getD cs v 0
 
--- each row from n on is multiplied by what each lane is apart from the points after its own, and by its constant; the first n rows stay
-pub record Above (bs cs ys : List ℕ) (n : ℕ) (rows rows′ : List ℕ) : Type 0 where
-  pub long : length rows′ ≡ 256
-  pub at : (v q : ℕ) → n ≤ v → v < length bs → q < 16
-      → lane rows′ v q ≡ getD cs v 0 ⊗ (lane rows v q ⊗ away (drop (suc v) bs) (getD ys q 0))
-  pub rest : (v q : ℕ) → v < n → q < 16 → lane rows′ v q ≡ lane rows v q
+-- row v is multiplied by ps, lane by lane; the others stay
+pub record RowTimes (v : ℕ) (ps rows rows′ : List ℕ) : Type 0 where
+  pub long : length rows′ ≡ length rows
+  pub own : (q : ℕ) → q < 16 → lane rows′ v q ≡ lane rows v q ⊗ getD ps q 0
+  pub other : (u q : ℕ) → (u ≡ v → ⊥) → q < 16 → lane rows′ u q ≡ lane rows u q
+
+-- row v is Lagrange's polynomial of point v, at each lane
+pub record Polynomials (bs ys rows : List ℕ) : Type 0 where
+  pub long : length rows ≡ 256
+  pub at : (v q : ℕ) → v < length bs → q < 16 → lane rows v q ≡ lagrange bs v (getD ys q 0)
 
 -- constant v: the inverse of what point v is apart from the others
 pub record Constants (bs cs : List ℕ) : Type 0 where

@@ -1,2 +1,3 @@
 pub mod Weights
 pub mod Lanes
+pub mod Powers

@@ -1,17 +1,18 @@
 // The weights by which bytes at some points make up bytes at others: Lagrange's polynomials. Sixteen of the others are taken at a time, one
 // to a lane. A row is the product of what they are apart from the points before its own and from those after it, times a constant of the
 // row.
-use field::Gf;
+mod inverse;
+
+use inverse::inverse;
 use lanes::copy;
 use lanes::shorter;
 use products::multiply;
-use products::scale_all;
 ghost use mathlib.Core.Path.{_≡_};
 ghost use Prim.Native.Nat.{ℕ, _+_, _*_, _<_, _≤_};
 ghost use lib.ListN.{length, getD};
-ghost use Rattle.field.specs.Field.{_⊕_};
+ghost use Rattle.field.specs.Field.{_⊕_, _⊗_};
 ghost use Rattle.lagrange.specs.Weights.{weightsFit, weighed};
-ghost use Rattle.lagrange.specs.Lanes.{Below, Above, ApartFromOthers, Constants, Laid, Filled};
+ghost use Rattle.lagrange.specs.Lanes.{ApartFromOthers, Constants, Spread, RowTimes, Polynomials, Laid, Filled};
 
 // Whether there are at most 16 rows of at most 255 weights, and c bytes are these.
 fn fits(r: usize, m: usize, c: usize) -> bool
@@ -39,55 +40,37 @@ fn apart(y: &[u8; 16], b: u8) -> [u8; 16]
     d
 }
 
-// Row v is the product of what each lane is apart from the points before point v.
-fn below(bs: &[u8], y: &[u8; 16], rows: &mut [u8])
-    requires { ⌜ (length (now bs) ≤ 16) × (length (now rows) ≡ 256) ⌝ }
-    ensures { λ _. ⌜ Below (now (bs .entry)) (now (y .entry)) (length (now (bs .entry))) (now (rows .exit)) ⌝ }
+// What each of the first 16 bytes is apart from the one s places on.
+fn apart_by(z: &[u8; 32], s: usize) -> [u8; 16]
+    requires { ⌜ s ≤ 16 ⌝ }
+    ensures { λ v. ⌜ (length v ≡ 16) × ((q : ℕ) → q < 16 → getD v q 0 ≡ getD (now (z .entry)) q 0 ⊕ getD (now (z .entry)) (q + s) 0) ⌝ }
 {
-    let mut p = [1u8; 16];
-    let mut v = 0;
-    while v < bs.len() {
-        let a = v * 16;
-        let e = a + 16;
-        copy(&mut rows[a..e], &p);
-        let d = apart(y, bs[v]);
-        multiply(&mut p, &d);
-        v += 1;
+    let mut d = [0u8; 16];
+    let mut q = 0;
+    while q < 16 {
+        d[q] = z[q] ^ z[q + s];
+        q += 1;
     }
+    d
 }
 
-// Each row times what each lane is apart from the points after point v, and times constant v.
-fn above(bs: &[u8], cs: &[u8; 16], y: &[u8; 16], rows: &mut [u8])
-    requires { ⌜ (length (now bs) ≤ 16) × (length (now rows) ≡ 256) ⌝ }
-    ensures { λ _. ⌜ Above (now (bs .entry)) (now (cs .entry)) (now (y .entry)) 0 (now (rows .entry)) (now (rows .exit)) ⌝ }
-{
-    let mut p = [1u8; 16];
-    let mut v = bs.len();
-    while 0 < v {
-        v = v - 1;
-        let a = v * 16;
-        let e = a + 16;
-        multiply(&mut rows[a..e], &p);
-        scale_all(&mut rows[a..e], cs[v]);
-        let d = apart(y, bs[v]);
-        multiply(&mut p, &d);
-    }
-}
-
-// The product of what each of the points is apart from the others, one to a lane.
+// The product of what each of the points is apart from the others, one to a lane. The points stand twice in a row, so that the others are
+// those 1, 2 and so on places on.
 fn apart_from_others(bs: &[u8]) -> [u8; 16]
     requires { ⌜ length (now bs) ≤ 16 ⌝ }
     ensures { λ v. ⌜ ApartFromOthers (now (bs .entry)) v ⌝ }
 {
-    let mut y = [0u8; 16];
-    copy(&mut y, bs);
+    let n = bs.len();
+    let mut z = [0u8; 32];
+    copy(&mut z, bs);
+    let e = n + n;
+    copy(&mut z[n..e], bs);
     let mut p = [1u8; 16];
-    let mut v = 0;
-    while v < bs.len() {
-        let mut d = apart(&y, bs[v]);
-        d[v] = 1;
+    let mut s = 1;
+    while s < n {
+        let d = apart_by(&z, s);
         multiply(&mut p, &d);
-        v += 1;
+        s += 1;
     }
     p
 }
@@ -100,12 +83,63 @@ fn constants(bs: &[u8]) -> [u8; 16]
     let p = apart_from_others(bs);
     let mut cs = [0u8; 16];
     let mut v = 0;
-    while v < bs.len() {
-        let c = Gf(p[v]).inverse();
-        cs[v] = c.0;
+    while v < 16 {
+        cs[v] = inverse(p[v]);
         v += 1;
     }
     cs
+}
+
+// Each of n rows is its constant, in every lane.
+fn spread(cs: &[u8; 16], n: usize, rows: &mut [u8])
+    requires { ⌜ (n ≤ 16) × (length (now rows) ≡ 256) ⌝ }
+    ensures { λ _. ⌜ Spread (now (cs .entry)) n (now (rows .exit)) ⌝ }
+{
+    let mut v = 0;
+    while v < n {
+        let c = [cs[v]; 16];
+        let a = v * 16;
+        let e = a + 16;
+        copy(&mut rows[a..e], &c);
+        v += 1;
+    }
+}
+
+// Row v times p; and what each lane is apart from b, times p.
+fn further(rows: &mut [u8], v: usize, p: &[u8; 16], y: &[u8; 16], b: u8) -> [u8; 16]
+    requires { ⌜ (length (now rows) ≡ 256) × (v < 16) ⌝ }
+    ensures { λ _. ⌜ RowTimes v (now (p .entry)) (now (rows .entry)) (now (rows .exit)) ⌝ }
+    ensures { λ d. ⌜ (length d ≡ 16)
+        × ((q : ℕ) → q < 16 → getD d q 0 ≡ (getD (now (y .entry)) q 0 ⊕ b) ⊗ getD (now (p .entry)) q 0) ⌝ }
+{
+    let a = v * 16;
+    let e = a + 16;
+    multiply(&mut rows[a..e], p);
+    let mut d = apart(y, b);
+    multiply(&mut d, p);
+    d
+}
+
+// Each lane of each row is Lagrange's polynomial. From the first row on p is what each lane is apart from the points before row v, and
+// from the last row back s is what it is apart from those after row u: the two go on side by side, since neither waits for the other.
+fn polynomials(bs: &[u8], cs: &[u8; 16], y: &[u8; 16], rows: &mut [u8])
+    requires { ⌜ (length (now bs) ≤ 16) × (Constants (now bs) (now cs) × (length (now rows) ≡ 256)) ⌝ }
+    ensures { λ _. ⌜ Polynomials (now (bs .entry)) (now (y .entry)) (now (rows .exit)) ⌝ }
+{
+    let n = bs.len();
+    if n == 0 {
+        return;
+    }
+    spread(cs, n, rows);
+    let mut p = apart(y, bs[0]);
+    let mut s = apart(y, bs[n - 1]);
+    let mut v = 1;
+    while v < n {
+        let u = n - 1 - v;
+        p = further(rows, v, &p, y, bs[v]);
+        s = further(rows, u, &s, y, bs[u]);
+        v += 1;
+    }
 }
 
 // The w bytes from `at` on, one to a lane.
@@ -143,8 +177,7 @@ fn block(bs: &[u8], cs: &[u8; 16], ys: &[u8], at: usize, w: usize, out: &mut [u8
 {
     let y = lanes_of(ys, at, w);
     let mut rows = [0u8; 256];
-    below(bs, &y, &mut rows);
-    above(bs, cs, &y, &mut rows);
+    polynomials(bs, cs, &y, &mut rows);
     lay(&rows, bs.len(), ys.len(), at, w, out);
 }
 

@@ -9,9 +9,9 @@
 #include <string.h>
 #include <ucontext.h>
 
-enum { DEPTH = 1 << 17, PAINT = 0xA7, N = SHELF_MAX_DATA + SHELF_MAX_PARITY };
+enum { DEPTH = 1 << 16, WORDS = DEPTH / 8, PAINT = 0xA7, N = SHELF_MAX_DATA + SHELF_MAX_PARITY };
 
-static uint8_t stack[DEPTH];
+static uint64_t stack[WORDS];
 static ucontext_t back, there;
 static uint8_t stripe[N * SHELF_MAX_COLUMN], parity[SHELF_MAX_PARITY * SHELF_MAX_COLUMN], record[SHELF_RECORD_BYTES];
 static uint16_t lost[SHELF_RECORD_LOST];
@@ -34,10 +34,12 @@ static void fold(void) { answer = shelf_fold(k, r, t, l, stripes, f, stripe, she
 static void read_record(void) { answer = shelf_read_record(record, length, stripe, SHELF_RECORD_BYTES, lost, SHELF_RECORD_LOST, numbers, SHELF_RECORD_NUMBERS); }
 static void write_record(void) { answer = shelf_write_record(k, r, t, l, stripe, (k + r) * l, lost, pairs_len / 2, record, sizeof record, &length); }
 
-/* How many bytes of the painted stack a call touches. */
+/* How many bytes of the painted stack a call touches, in whole words. */
 static size_t depth(void (*call)(void))
 {
+    uint64_t paint;
     size_t untouched = 0;
+    memset(&paint, PAINT, sizeof paint);
     memset(stack, PAINT, sizeof stack);
     getcontext(&there);
     there.uc_stack.ss_sp = stack;
@@ -46,9 +48,9 @@ static size_t depth(void (*call)(void))
     makecontext(&there, call, 0);
     if (swapcontext(&back, &there) != 0)
         exit(2);
-    while (untouched < sizeof stack && stack[untouched] == PAINT)
+    while (untouched < WORDS && stack[untouched] == paint)
         untouched++;
-    return sizeof stack - untouched;
+    return 8 * (WORDS - untouched);
 }
 
 static const struct { const char *name; void (*call)(void); int folds; } calls[] = {
@@ -60,8 +62,8 @@ enum { CALLS = sizeof calls / sizeof *calls };
 
 int main(void)
 {
-    static const uint64_t widths[] = {1, 2, 3, 12, 85, 127, 255}, lengths[] = {1, 6, 60, 64, 66, 192, 510, 516, 1542, 4092, 4095, 4096};
-    static const uint64_t marks[][2] = {{1, 0}, {2, 0}, {3, 0}, {1, 2}, {1, 3}, {2, 3}};
+    static const uint64_t widths[] = {1, 2, 3, 12, 85, 127, 239, 255}, lengths[] = {1, 6, 60, 64, 66, 192, 510, 516, 1542, 4092, 4095, 4096};
+    static const uint64_t marks[][2] = {{1, 0}, {2, 0}, {3, 0}, {1, 2}, {1, 3}, {2, 3}, {4, 0}, {9, 0}, {16, 0}};
     size_t deepest[CALLS] = {0}, accepted[CALLS] = {0}, base = depth(nothing);
     for (size_t w = 0; w < sizeof widths / sizeof *widths; w++)
         for (size_t m = 0; m < sizeof marks / sizeof *marks; m++)
@@ -69,13 +71,13 @@ int main(void)
                 for (int c = 0; c < CALLS; c++)
                     for (uint64_t turn = 0; turn <= (calls[c].folds ? 5 : 3); turn++) {
                         k = widths[w], r = marks[m][0], t = marks[m][1], l = lengths[n];
-                        stripes = turn < 3 ? 2 : 255 / k, f = 1 + turn % 3;
+                        stripes = turn < 3 ? 2 : (r > 3 ? 255 - r : 255) / k, f = r > 3 ? r : 1 + turn % 3;
                         if (calls[c].call == encode || turn == 0)
                             for (size_t i = 0; i < k * l; i++)
                                 stripe[i] = (uint8_t)(i * 7 + i / 251);
                         if (!calls[c].folds)
                             shelf_encode(k, r, t, l, stripe, k * l, stripe + k * l, r * l);
-                        pairs_len = 2 * (turn < r ? turn : r);         /* the first columns are lost, or none */
+                        pairs_len = 2 * (turn < 3 && turn < r ? turn : r); /* the first columns are lost, or none */
                         for (size_t i = 0; i < pairs_len / 2; i++)
                             lost[i] = (uint16_t)(pairs[2 * i] = (uint8_t)i);
                         size_t d = depth(calls[c].call) - base;

@@ -16,7 +16,7 @@
 #include <string.h>
 #include <time.h>
 
-enum { MOST = 258 * 4096, SOURCES = 300, JOBS = 9 };
+enum { MOST = 258 * 4096, SOURCES = 300, MADE = 16, JOBS = MADE }; /* MADE: the most columns that a call makes or judges */
 enum { ROUNDS = 31, BATCH = 2 << 20 };                         /* a batch covers BATCH bytes, or one call's */
 enum { OURS, ISAL, JERASURE, ROOF, NATIVE_OURS, SIDES };
 
@@ -45,7 +45,7 @@ static const struct calls native_calls = {native_shelf_encode, native_shelf_mend
 static const struct calls *const native = NULL;
 #endif
 
-/* The thresholds, as ratios to ISA-L. Fold C has one more, and so has mending at L = 64. */
+/* The thresholds, as ratios to ISA-L. Fold C has one more, and so have mending at L = 64 and more than three parity columns. */
 static const struct { const char *what; int k, r, t, l[4]; double least; } thresholds[] = {
     {"encode", 4, 2, 0, {64, 512, 4095, 4096}, 1.6},
     {"encode", 12, 2, 0, {64, 512, 4095, 4096}, 1.6},
@@ -55,6 +55,7 @@ static const struct { const char *what; int k, r, t, l[4]; double least; } thres
     {"mend 1", 12, 2, 0, {512, 4095, 4096}, 1.2},
     {"mend 2", 12, 2, 0, {512, 4096}, 0.9},
     {"fold A, N=3", 4, 2, 0, {512, 4096}, 1.0},
+    {"fold A, N=3", 16, 16, 0, {4096}, 0.6},
     {"fold B, N=3", 4, 1, 2, {4096}, 0.8},
     {"fold B, N=3", 4, 2, 3, {4080, 4095}, 0.8},
 };
@@ -63,8 +64,8 @@ static const struct { const char *what; int k, r, t, l[4]; double least; } thres
 static int K, R, T, L, run, failed;                            /* run: the bytes of a run, L if the stripe is plain */
 static size_t covered;                                         /* bytes of a call that the speed counts */
 static uint8_t whole[MOST] __attribute__((aligned(4096))), copy[MOST] __attribute__((aligned(4096)));
-static uint8_t theirs[3 * 4096] __attribute__((aligned(4096)));
-static uint8_t *ours_at[3];                                    /* column i of our answer; theirs is theirs + i*L */
+static uint8_t theirs[MADE * 4096] __attribute__((aligned(4096)));
+static uint8_t *ours_at[MADE];                                   /* column i of our answer; theirs is theirs + i*L */
 static int columns, judged_from;                               /* columns from judged_from on are not written by ours, but judged */
 
 static uint8_t power_of_g(int e)
@@ -78,8 +79,8 @@ static uint8_t power_of_g(int e)
 /* ---- the peers: sums of columns, those of the same columns as rows of one job ---- */
 
 static struct job {
-    int sources, rows, matrix[3 * SOURCES];                    /* jerasure's weights */
-    uint8_t *from[SOURCES], *to[3], weight[3][SOURCES], tables[32 * 3 * SOURCES]; /* tables: ISA-L's */
+    int sources, rows, matrix[MADE * SOURCES];                 /* jerasure's weights */
+    uint8_t *from[SOURCES], *to[MADE], weight[MADE][SOURCES], tables[32 * MADE * SOURCES]; /* tables: ISA-L's */
 } jobs[JOBS];
 static int job_count;
 
@@ -100,7 +101,7 @@ static void of(uint8_t weight, uint8_t *from)
 /* Joins neighbouring sums of the same columns to one job, and makes each job's matrix and tables. */
 static void make_jobs(void)
 {
-    static uint8_t bytes[3 * SOURCES];
+    static uint8_t bytes[MADE * SOURCES];
     int made = 0;
     for (int i = 0; i < job_count; i++) {
         struct job *s = &jobs[i], *last = made > 0 ? &jobs[made - 1] : NULL;
@@ -201,7 +202,7 @@ static struct result contest(const char *what, void (*our_turn)(void), double le
     double gb[SIDES];
     our_own = our_turn;
     make_jobs();
-    printf("%-18s %3d %d %d %4d ", what, K, R, T, L);
+    printf("%-18s %3d %2d %d %4d ", what, K, R, T, L);
     our_turn();
     for (int side = ISAL; side <= JERASURE && turns[side]; side++) {
         memset(theirs, 0, sizeof theirs);
@@ -239,7 +240,7 @@ static void shape(int k, int r, int t, int l)
 
 /* ---- stripes: encode, check, mend ---- */
 
-static uint8_t lost_bytes[6];
+static uint8_t lost_bytes[2 * MADE];
 static int lost_count;
 
 static void our_encode(void)
@@ -258,11 +259,25 @@ static void our_check(void)
     failed |= calls->check((uint64_t)K, (uint64_t)R, (uint64_t)T, (uint64_t)L, whole, (size_t)(K * L), whole + K * L, (size_t)(R * L), &column, &place) != 0;
 }
 
+/* Of codes given by check equations, what a byte at the point g^e counts in parity column j: Lagrange's polynomial of that column's point. */
+static uint8_t by_points(int j, int e)
+{
+    uint8_t above = 1, below = 1;
+    for (int i = 0; i < R; i++)
+        if (i != j) {
+            above = gf_mul(above, power_of_g(e) ^ power_of_g(254 - i));
+            below = gf_mul(below, power_of_g(254 - j) ^ power_of_g(254 - i));
+        }
+    return gf_mul(above, gf_inv(below));
+}
+
 /* The weight of data column c, run d, in the column at position p, run b. */
 static uint8_t weight(int p, int b, int c, int d)
 {
     if (p < K)
         return p == c && b == d;
+    if (R > 3)
+        return by_points(p - K, c);
     return b == d ? power_of_g((p - K) * c) : b >= R && d == p - K ? power_of_g(b * c) : 0;
 }
 
@@ -289,9 +304,9 @@ static void sums_of(const int *from, const int *wanted)
 }
 
 /* Lost are `count` columns from `first` on, in encoding the parity; the peers use the first k survivors and judge the others. */
-static struct result stripe(const char *what, void (*our_turn)(void), int first, int count)
+static struct result stripe(const char *what, void (*our_turn)(void), int first, int count, double asked)
 {
-    int survivors[258], wanted[3], found = 0;
+    int survivors[258], wanted[MADE], found = 0;
     our_encode();
     for (int p = 0; p < K + R; p++)
         if (p < first || p >= first + count)
@@ -304,22 +319,24 @@ static struct result stripe(const char *what, void (*our_turn)(void), int first,
     columns = R, judged_from = lost_count = count;
     sums_of(survivors, wanted);
     memset(whole + first * L, 0xEE, (size_t)(count * L));
-    return contest(what, our_turn, 0);
+    return contest(what, our_turn, asked);
 }
 
 static struct result encode_as(const char *what, int k, int r, int t, int l)
 {
     shape(k, r, t, l);
     covered = (size_t)(k * l);
-    return stripe(what, our_encode, k, r);
+    return stripe(what, our_encode, k, r, 0);
 }
 
-static struct result mend(const char *what, int k, int r, int t, int l, int first, int count)
+static struct result mend_asked(const char *what, int k, int r, int t, int l, int first, int count, double asked)
 {
     shape(k, r, t, l);
     covered = (size_t)((k + r) * l);
-    return stripe(what, count == 0 ? our_check : our_mend, first, count);
+    return stripe(what, count == 0 ? our_check : our_mend, first, count, asked);
 }
+
+static struct result mend(const char *what, int k, int r, int t, int l, int first, int count) { return mend_asked(what, k, r, t, l, first, count, 0); }
 
 static struct result encode(int k, int r, int t, int l) { return encode_as(t == 0 ? "encode" : "encode prepared", k, r, t, l); }
 static struct result check(int k, int r, int t, int l) { return mend("check", k, r, t, l, 0, 0); }
@@ -327,6 +344,22 @@ static struct result mend_1(int k, int r, int t, int l) { return mend("mend 1", 
 static struct result mend_2(int k, int r, int t, int l) { return mend("mend 2", k, r, t, l, 1, 2); }
 static struct result mend_3(int k, int r, int t, int l) { return mend("mend 3", k, r, t, l, 1, 3); }
 static struct result mend_parity(int k, int r, int t, int l) { return mend("mend a parity", k, r, t, l, k, 1); }
+
+/* More than three parity columns. `asked` is what is asked of encoding at L = 4096; at 512 it is three quarters of that, and at 64 nothing. Of the check,
+ * and of mending 1, r/2 and r lost, four fifths of it are asked. */
+static void by_equations(int k, int r, int l, double asked)
+{
+    const int lost[] = {0, 1, r / 2, r};
+    double least = l == 4096 ? asked : l == 512 ? 0.75 * asked : 0;
+    shape(k, r, 0, l);
+    covered = (size_t)(k * l);
+    stripe("encode", our_encode, k, r, least);
+    for (int i = 0; i < 4; i++) {
+        char what[32];
+        snprintf(what, sizeof what, i == 0 ? "check" : "mend %d", lost[i]);
+        mend_asked(what, k, r, 0, l, 1, lost[i], 0.8 * least);
+    }
+}
 
 /* ---- folds ---- */
 
@@ -358,14 +391,16 @@ static struct result fold(char kind, double least)
     return contest(what, our_fold, least);
 }
 
-/* Kind A, f = r: wide row j is a sum of N columns. */
+/* Kind A, f = r: wide row j is a sum of N columns; with more than three parity columns, of all of them. */
 static struct result fold_a(int k, int r, int t, int l)
 {
     fold_shape(k, r, t, l, r);
     for (int j = 0; j < F; j++) {
         sum(theirs + j * l);
-        for (int i = 0; i < N; i++)
+        for (int i = 0; i < N && r <= 3; i++)
             of(power_of_g(j * k * i), whole + (i * F + j) * l);
+        for (int i = 0; i < N * F && r > 3; i++)
+            of(by_points(j, 254 - i % F + k * (i / F)), whole + i * l);
     }
     return fold('A', 0);
 }
@@ -422,7 +457,7 @@ int main(void)
 {
     for (int i = 0; i < MOST; i++)
         whole[i] = (uint8_t)(rand() >> 7);
-    printf("GB/s, %-12s %3s %s %s %4s %7s %7s %6s %8s %6s %7s%s\n", MACHINE, "k", "r", "t", "L", "ours", "ISA-L", "ratio", "jerasure", "ratio", "memcpy",
+    printf("GB/s, %-12s %3s %2s %s %4s %7s %7s %6s %8s %6s %7s%s\n", MACHINE, "k", "r", "t", "L", "ours", "ISA-L", "ratio", "jerasure", "ratio", "memcpy",
            native ? "  native: ratio to ISA-L" : "");
     each(1, 0, encode);
     each(2, 0, encode);
@@ -433,7 +468,7 @@ int main(void)
     each(2, 0, check);
     each(2, 0, mend_1);
     each(2, 0, mend_2);
-    printf("(64 against 4096) %12s %7.2f", "", results[1][0].speed / results[1][2].speed);
+    printf("(64 against 4096) %13s %7.2f", "", results[1][0].speed / results[1][2].speed);
     require(results[1][0].speed / results[1][2].speed, 1.0 / 3);
     printf("\n");
     each(3, 0, mend_1);
@@ -449,6 +484,13 @@ int main(void)
     each(2, 3, fold_b);
     each(1, 0, fold_c);
     each(2, 0, fold_c);
+    for (int l = 0; l < 3; l++) {
+        by_equations(12, 4, ls[l], 0.4);
+        by_equations(20, 8, ls[l], 0.5);
+        by_equations(100, 16, ls[l], 0.7);
+        fold_a(12, 4, 0, ls[l]);
+        fold_a(16, 16, 0, ls[l]);
+    }
     /* columns that end inside a vector, where thresholds ask for them */
     encode(4, 2, 0, 4095);
     encode(12, 2, 0, 4095);

@@ -11,25 +11,32 @@
  * The numbers of a stripe:
  *
  *   k   data columns, 1 to 255, at positions 0 to k-1
- *   r   parity columns, 1 to 3, at positions k to k+r-1
- *   t   0 for a plain stripe, else the parity count that the stripe is prepared to gain: r < t <= 3 and t <= k
+ *   r   parity columns, 1 to 16, at positions k to k+r-1; if r is above 3, k + r <= 255
+ *   t   0 for a plain stripe, else the parity count that the stripe is prepared to gain: r < t <= 3 and t <= k, so 0 if r is above 2
  *   l   bytes of a column, 1 to 4096, and divisible by t if t is not 0
  *
  * Columns stand one after another: byte p of column c is byte c * l + p of its buffer.
  *
  * A byte is a polynomial over two elements, bit 0 the constant term, reduced by x^8+x^4+x^3+x^2+1 (hex 11D). A sum is an exclusive
- * or, and g is the byte 02. Row j of k columns is, at each place, the sum over the columns i of g^(i*j) times the byte there. A
- * codeword is a stripe whose parity columns hold what shelf_encode writes; any k columns of a codeword determine it.
+ * or, and g is the byte 02. Row j of k columns is, at each place, the sum over the columns i of g^(i*j) times the byte there. With r
+ * up to 3 the parity columns hold rows of the data columns, as shelf_encode says.
+ *
+ * With r above 3 the code is given by check equations. Data column i has the point g^i, parity column j the point g^(254-j). Sum s of
+ * columns is, at each place, the sum over them of point^s times the byte there; of the data columns it is row s. A codeword is a stripe
+ * whose sum s, of all its columns, is 0 at every place for every s below r.
+ *
+ * Whatever r is, a codeword is a stripe whose parity columns hold what shelf_encode writes, and any k columns of a codeword determine it.
  *
  * A fold makes one wide stripe, plain, of several stripes of the same numbers: its data columns are theirs in order, and it gets f
  * parity columns. The two further numbers of a fold:
  *
- *   stripes   how many stripes are folded, 2 to 255, with stripes * k <= 255
- *   f         parity columns of the wide stripe, 1 to 3, and f = t if t is not 0
+ *   stripes   how many stripes are folded, 2 to 255, with stripes * k <= 255; if r is above 3, with stripes * k + r <= 255
+ *   f         parity columns of the wide stripe, 1 to 3, and f = t if t is not 0; if r is above 3, f = r
  *
  * Its plan says which bytes are read: one span per column read, the stripes in order and in each the positions in order. If t is 0,
- * f <= r and f <= k, these are the parity columns 0 to f-1 of each stripe, whole. If t is not 0, the bytes from r * (l/t) on of each
- * data column, and every parity column, whole. Else every data column, whole. The longest plan has 425 spans.
+ * f <= r and f <= k, these are the parity columns 0 to f-1 of each stripe, whole; with r above 3, where f = r, that is so if k >= r. If
+ * t is not 0, the bytes from r * (l/t) on of each data column, and every parity column, whole. Else every data column, whole. The
+ * longest plan has 425 spans.
  *
  * The caller's duties, which no function can check:
  *   - a pointer beside a length that is not 0 points to that many bytes or records, which may be read, and written where it is not
@@ -54,6 +61,9 @@
  *   shelf_mend(4, 2, 0, 1, wide, 6, lost, 4);                 SHELF_OK: wide is again 01 02 03 04 04 29
  *   wide[1] = 6;                                              a stale column
  *   shelf_mend(4, 2, 0, 1, wide, 6, NULL, 0);                 SHELF_DISAGREES: the check
+ *
+ *   uint8_t many[8] = {1, 2, 3, 4};                           a stripe of 4 + 4 columns
+ *   shelf_encode(4, 4, 0, 1, many, 4, many + 4, 4);           SHELF_OK: many is 01 02 03 04 60 9B 1C E3
  */
 #ifndef SHELF_H
 #define SHELF_H
@@ -66,27 +76,27 @@ extern "C" {
 #endif
 
 /* The version of this header and of the library that it came with. */
-#define SHELF_VERSION "0.2.1"
+#define SHELF_VERSION "0.3.0"
 
 /* The limits, for the sizes of a caller's buffers. */
 enum {
     SHELF_MAX_DATA = 255,          /* k, and stripes * k */
-    SHELF_MAX_PARITY = 3,          /* r, t and f */
+    SHELF_MAX_PARITY = 16,         /* r and f; t is at most 3, and so is f where r is */
     SHELF_MAX_COLUMN = 4096,       /* l, in bytes */
     SHELF_MAX_STRIPES = 255,       /* stripes */
     SHELF_MAX_SPANS = 425,         /* spans of a plan */
     SHELF_RECORD_BYTES = 65536,    /* most bytes of a record, and of the stripe that it describes */
-    SHELF_RECORD_LOST = 258,       /* lost positions of a record at most: k + r */
+    SHELF_RECORD_LOST = 258,       /* lost positions of a record at most: k + r, of any stripe (255 + 3; with r above 3 at most 255) */
     SHELF_RECORD_NUMBERS = 5       /* numbers that are read of a record */
 };
 
 /* What a function returns. */
 enum {
     SHELF_OK = 0,
-    SHELF_SHAPE = 1,         /* k, r or t is not allowed */
+    SHELF_SHAPE = 1,         /* k, r or t is not allowed, or k + r is above 255 with r above 3 */
     SHELF_LENGTH = 2,        /* l is not allowed */
-    SHELF_STRIPES = 3,       /* the number of stripes is not 2 to 255, or stripes * k is above 255 */
-    SHELF_NEW_PARITY = 4,    /* f is not allowed */
+    SHELF_STRIPES = 3,       /* the number of stripes is not 2 to 255, or stripes * k is above 255, or stripes * k + r with r above 3 */
+    SHELF_NEW_PARITY = 4,    /* f is not allowed: with r above 3 any but r */
     SHELF_BUFFER = 5,        /* a buffer has another length than stated (a list of spans, a record's output: is too short), or a
                                 record or its stripe has more than 65,536 bytes */
     SHELF_LOST = 6,          /* lost positions do not strictly ascend, or one is not below k + r */
@@ -121,13 +131,14 @@ static inline const char *shelf_refusal(uint32_t number)
  *   data, data_len       the data columns 0 to k-1 in order: data_len is k * l. They are read and stay as they are.
  *   parity, parity_len   the parity columns 0 to r-1 in order: parity_len is r * l. What they held does not matter.
  *
- * Parity column j of a plain stripe holds row j of the data columns. A prepared stripe's columns are cut into t runs of l/t bytes,
- * run 0 first, and bytes at the same place in the runs go together: its parity column i holds in run j row i of the data columns'
- * runs j, and if j >= r row j of their runs i is added to it.
+ * With r up to 3 parity column j of a plain stripe holds row j of the data columns. A prepared stripe's columns are cut into t runs of
+ * l/t bytes, run 0 first, and bytes at the same place in the runs go together: its parity column i holds in run j row i of the data
+ * columns' runs j, and if j >= r row j of their runs i is added to it. With r above 3 sum s of the parity columns is row s of the data
+ * columns, at every place and for every s below r: there is one such parity and no other.
  *
  * Returns 0: all r * l parity bytes are written. Returns 1, 2 or 5, in this order: nothing is written.
  *
- * Stack: less than 1,024 bytes.
+ * Stack: less than 14,336 bytes.
  */
 uint32_t shelf_encode(uint64_t k, uint64_t r, uint64_t t, uint64_t l,
                       const uint8_t *data, size_t data_len, uint8_t *parity, size_t parity_len);
@@ -143,8 +154,8 @@ uint32_t shelf_encode(uint64_t k, uint64_t r, uint64_t t, uint64_t l,
  * agrees with every survivor. What the lost columns held counts for nothing. Returns 1, 2, 5 (an odd lost_len too), 6, 7 or 8, in
  * this order: nothing is written.
  *
- * With nothing lost, 0 says that the stripe is a codeword and 8 that it is none; shelf_check does that sooner, and says where. With
- * exactly r lost 8 never comes: any k columns agree with some codeword, so a stale one among them can't show.
+ * With nothing lost, 0 says that the stripe is a codeword and 8 that it is none; shelf_check says where, and with r up to 3 is sooner
+ * done. With exactly r lost 8 never comes: any k columns agree with some codeword, so a stale one among them can't show.
  *
  * Stack: less than 16,384 bytes.
  */
@@ -236,14 +247,18 @@ uint32_t shelf_plan_spans(uint64_t k, uint64_t r, uint64_t t, uint64_t l, uint64
  * The parity is that which shelf_encode fills in for the plain stripe of stripes * k data columns and f parity columns, if the
  * stripes that the bytes were read of held their own parity.
  *
- * For any bytes, parity column j holds, at each place, the sum over the stripes s, from 0, of g^(s*j*k) times what the stripe adds.
- * That is the byte of its parity column j where the plan reads parity columns alone, and row j of its data where it reads data
- * columns alone. If t is not 0, it is in run b, if b >= r, row j of run b of its data; if b < r and j < r, run b of its parity
+ * For any bytes, with r up to 3, parity column j holds, at each place, the sum over the stripes x, from 0, of g^(x*j*k) times what the
+ * stripe adds. That is the byte of its parity column j where the plan reads parity columns alone, and row j of its data where it reads
+ * data columns alone. If t is not 0, it is in run b, if b >= r, row j of run b of its data; if b < r and j < r, run b of its parity
  * column j; and if b < r and j >= r, run j of its parity column b plus row b of run j of its data.
+ *
+ * For any bytes, with r above 3, sum s of the new parity columns is, at each place and for every s below r, the sum over the stripes x,
+ * from 0, of g^(x*k*s) times what the stripe adds: sum s of its parity columns where the plan reads these, and row s of its data where
+ * it reads data columns. There is one such parity and no other.
  *
  * Returns 0: all f * l parity bytes are written. Returns 1, 2, 3, 4 or 5, in this order: nothing is written.
  *
- * Stack: less than 12,288 bytes.
+ * Stack: less than 14,336 bytes.
  */
 uint32_t shelf_fold(uint64_t k, uint64_t r, uint64_t t, uint64_t l, uint64_t stripes, uint64_t f,
                     const uint8_t *read, size_t read_len, uint8_t *parity, size_t parity_len);

@@ -199,6 +199,14 @@ module _ (xs ys : List ℕ) (long : length xs ≡ length ys) where
       go true e = omega (arith, agree-first e)
       go false e = omega (arith, first-within xs ys e)
 
+  -- which is past the last place exactly where the two agree
+  pub first-agree : eqb (firstDifference xs ys) (length xs) ≡ agree xs ys
+  first-agree = go (agree xs ys) refl
+    where
+      go : (b : Bool) → agree xs ys ≡ b → eqb (firstDifference xs ys) (length xs) ≡ b
+      go true e = eq-eqb (firstDifference xs ys) (length xs) (agree-first e)
+      go false e = ne-eqb (firstDifference xs ys) (length xs) (λ z. omega (arith, first-within xs ys e))
+
   pub differs-within : firstDifference xs ys < length xs → getD xs (firstDifference xs ys) 0 ≡ getD ys (firstDifference xs ys) 0 → ⊥
   differs-within h = go (agree xs ys) refl
     where

@@ -1,6 +1,7 @@
 // The check of stripes given by check equations. Their parity may be long, so it is made window by window, and what is kept is the least
 // index at which the parity lent was found to differ.
 use crate::compare::difference;
+use constants::MOST_CONSTANTS;
 use constants::encoding;
 use constants::in_order;
 use lanes::shorter;
@@ -22,18 +23,13 @@ ghost use Rattle.checking.specs.Windows.{Below, Window};
 // The bytes of a window, of all rows together.
 const WINDOW: usize = 2048;
 
-// The first index at which the parity lent differs from the parity of the data, or its length. The constants take not much more room than
-// they need.
+// The first index at which the parity lent differs from the parity of the data, or its length.
 pub(crate) fn first_by_points(s: Shape, data: &[u8], lent: &[u8]) -> usize
     requires { ⌜ (lentRefusal s (length (now «data»)) (length (now lent)) ≡ 0) × (byPoints s ≡ true) ⌝ }
     ensures { λ v. ⌜ v ≡ firstDifference (now (lent .entry)) (parity s (now («data» .entry))) ⌝ }
 {
     let n = s.r * s.k;
-    if n <= 256 {
-        let mut w = [0u8; 256];
-        return first_by(s, data, lent, &mut w[0..n]);
-    }
-    let mut w = [0u8; 4080];
+    let mut w = [0u8; MOST_CONSTANTS];
     first_by(s, data, lent, &mut w[0..n])
 }
 

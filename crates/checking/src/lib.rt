@@ -1,19 +1,23 @@
-// The check of a stripe: where its parity first disagrees with the parity by definition. By rows the parity of the data is encoded into a
-// local buffer, and the two are compared whole; with r above 3 that is done in `by_points`.
+// The check of a stripe: where its parity first disagrees with the parity by definition. First it is asked whether the parity agrees at
+// all, and then, if it does not, where. With r up to 3 that is done in `by_rows`, and with r above 3 in `by_points`. Each of the two is
+// called from two functions: so it keeps a stack frame of its own, and the buffers of the two never stand on the stack together.
 mod by_points;
+mod by_rows;
 mod compare;
 
 use crate::by_points::first_by_points;
-use crate::compare::difference;
-use coding::encode::encode;
+use crate::by_rows::SMALL;
+use crate::by_rows::first_by_rows;
+use crate::by_rows::in_small;
 use stripe::MOST_ROWS;
-use stripe::MOST_ROWS_LENGTH;
 use stripe::Shape;
 use stripe::column::lent_refusal;
 ghost use mathlib.Core.Path.{_≡_};
 ghost use lib.ListN.{length};
 ghost use Rattle.stripe.specs.Shape.{shapeRefusal};
+ghost use Rattle.stripe.specs.Stripe.{parity};
 ghost use Rattle.stripe.specs.Column.{lentRefusal};
+ghost use Rattle.checking.specs.Compare.{agree, firstDifference};
 ghost use Rattle.checking.specs.Check.{whereIs, firstWrong};
 
 // Nowhere, or at a parity column and a place in it, or a refusal.
@@ -23,8 +27,7 @@ pub enum Wrong {
     Refused(u32),
 }
 
-// The first disagreement, by parity column and then by place; 1, 2 or 5 where the numbers or the lengths are refused. A buffer is
-// cleared before it is filled, so a small stripe takes a small one.
+// The first disagreement, by parity column and then by place; 1, 2 or 5 where the numbers or the lengths are refused.
 pub fn first_wrong(s: Shape, data: &[u8], parity: &[u8]) -> Wrong
     ensures { λ v. ⌜ v ≡ firstWrong s (now («data» .entry)) (now (parity .entry)) ⌝ }
 {
@@ -32,20 +35,10 @@ pub fn first_wrong(s: Shape, data: &[u8], parity: &[u8]) -> Wrong
     if no != 0 {
         return Wrong::Refused(no);
     }
-    if MOST_ROWS < s.r {
-        return where_is(s, first_by_points(s, data, parity));
+    if agrees(s, data, parity) {
+        return Wrong::Nowhere;
     }
-    let n = parity.len();
-    if n <= 192 {
-        let mut small = [0u8; 192];
-        return compared(s, data, parity, &mut small[0..n]);
-    }
-    if n <= 1536 {
-        let mut middle = [0u8; 1536];
-        return compared(s, data, parity, &mut middle[0..n]);
-    }
-    let mut large = [0u8; MOST_ROWS_LENGTH];
-    compared(s, data, parity, &mut large[0..n])
+    where_is(s, first(s, data, parity))
 }
 
 // Index n of the parity bytes as parity column and place, or nowhere if it is past the last.
@@ -62,11 +55,28 @@ fn where_is(s: Shape, n: usize) -> Wrong
     Wrong::At(i, p)
 }
 
-// The first disagreement, found beside the parity of the data in a buffer as long as the parity lent.
-fn compared(s: Shape, data: &[u8], parity: &[u8], made: &mut [u8]) -> Wrong
-    requires { ⌜ (lentRefusal s (length (now «data»)) (length (now parity)) ≡ 0) × (length (now made) ≡ length (now parity)) ⌝ }
-    ensures { λ v. ⌜ v ≡ firstWrong s (now («data» .entry)) (now (parity .entry)) ⌝ }
+// Whether the parity lent agrees with the parity of the data. A small stripe is compared in the frame of the call.
+fn agrees(s: Shape, data: &[u8], lent: &[u8]) -> bool
+    requires { ⌜ lentRefusal s (length (now «data»)) (length (now lent)) ≡ 0 ⌝ }
+    ensures { λ v. ⌜ v ≡ agree (now (lent .entry)) (parity s (now («data» .entry))) ⌝ }
 {
-    encode(s, data, made);
-    where_is(s, difference(parity, made))
+    let n = lent.len();
+    if MOST_ROWS < s.r {
+        return first_by_points(s, data, lent) == n;
+    }
+    if n <= SMALL {
+        return in_small(s, data, lent) == n;
+    }
+    first_by_rows(s, data, lent) == n
+}
+
+// The first index at which the parity lent differs from the parity of the data, or its length.
+fn first(s: Shape, data: &[u8], lent: &[u8]) -> usize
+    requires { ⌜ lentRefusal s (length (now «data»)) (length (now lent)) ≡ 0 ⌝ }
+    ensures { λ v. ⌜ v ≡ firstDifference (now (lent .entry)) (parity s (now («data» .entry))) ⌝ }
+{
+    if MOST_ROWS < s.r {
+        return first_by_points(s, data, lent);
+    }
+    first_by_rows(s, data, lent)
 }

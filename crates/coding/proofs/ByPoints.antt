@@ -3,7 +3,6 @@ use mathlib.Core.Path.{_≡_, refl, sym, ap, ap₂, _∙_, subst}
 use mathlib.Core.Bool.{true}
 use mathlib.Core.List.{List}
 use Prim.Native.Nat.{ℕ, _+_, _-_, _*_, _%_, _<_, _≤_}
-use native.Mathlib.Nat.{mul-le-mul}
 use native.Mathlib.Omega.{arith}
 use lib.ListN.{length, getD}
 use borrow.Rule.Slice.PartMut.{midOf, mid-len}
@@ -20,8 +19,8 @@ use Rattle.stripe.proofs.Places.{column-inside, parity-exact, parity-by-points}
 use Rattle.stripe.proofs.Lent.{lent}
 use Rattle.matrix.specs.Matrix.{rowOf, bytesAt, matrixFits, applied, becomes}
 use Rattle.matrix.proofs.Shape.{Numbers, Lengths, fit-lengths, applied-length, applied-place, becomes-fits}
-use Rattle.constants.specs.Constants.{encodingOf, encodes}
-use Rattle.constants.proofs.Made.{encoding-made, encoding-length}
+use Rattle.constants.specs.Constants.{mostConstants, encodingOf, encodes}
+use Rattle.constants.proofs.Made.{few-constants, encoding-made, encoding-length}
 use Rattle.constants.proofs.Applied.{order-small, parity-applied}
 
 -- the numbers of a shape by points
@@ -32,7 +31,7 @@ pub record Pointed (s : Shape) : Type 0 where
   pub fits : s .k + s .r ≤ 255
   pub length-some : 1 ≤ s .l
   pub length-most : s .l ≤ 4096
-  pub small : s .r * s .k ≤ 4080
+  pub small : s .r * s .k ≤ mostConstants
 
 pub pointed : (s : Shape) → shapeRefusal s ≡ 0 → byPoints s ≡ true → Pointed s
 pointed s h e =
@@ -44,7 +43,7 @@ pointed s h e =
       fits = points-fit s a e;
       length-some = a .length-some;
       length-most = a .length-most;
-      small = mul-le-mul {n₂ = 16} {m₂ = 255} (a .parity-most) (a .data-most);
+      small = few-constants (s .r) (s .k) (a .parity-most) (points-fit s a e);
     }
 
 -- the first n bytes of a buffer

@@ -2,14 +2,16 @@
 use mathlib.Core.Path.{_≡_, sym, ap, _∙_}
 use mathlib.Core.Bool.{Bool, true, false, cond}
 use mathlib.Core.List.{List}
-use Prim.Native.Nat.{ℕ, _*_, _<_}
+use Prim.Native.Nat.{ℕ, _*_, _<_, _≤_}
+use lib.Dec.{leb}
 use lib.ListN.{length}
-use borrow.Author.Tests.{eq-eqb, ne-eqb}
+use borrow.Author.Tests.{eq-eqb, ne-eqb, le-leb, lt-leb}
 use Rattle.stripe.specs.declared.Shape.{Shape}
 use Rattle.stripe.specs.Stripe.{byPoints, rowAt, parity}
+use Rattle.stripe.specs.Shape.{mostRows}
 use Rattle.stripe.specs.Column.{lentRefusal}
 use Rattle.rows.specs.Rows.{rowsFit, filled, RowsBelow}
-use Rattle.coding.specs.Encode.{encoded, IsRow, IsParity}
+use Rattle.coding.specs.Encode.{encoded, encodedByRows, IsRow, IsParity}
 use Rattle.rows.proofs.Fits.{Columns, fit-rows}
 use Rattle.rows.proofs.Filled.{filled-places}
 use Rattle.stripe.proofs.Allowed.{allowed, rows-most}
@@ -58,6 +60,15 @@ module _ (s : Shape) (ds ps : List ℕ) where
   pub encoded-done : lentRefusal s (length ds) (length ps) ≡ 0 → parity s ds ≡ encoded s ds ps
   unfolding encoded
   encoded-done h = sym (ap (λ (b : Bool). cond b (parity s ds) ps) (eq-eqb _ _ h))
+
+  -- by rows the same, and with more parity columns nothing is written
+  pub encoded-by-rows : s .r ≤ mostRows → encodedByRows s ds ps ≡ encoded s ds ps
+  unfolding encodedByRows
+  encoded-by-rows h = ap (λ (b : Bool). cond b (encoded s ds ps) ps) (le-leb (s .r) mostRows h)
+
+  pub encoded-too-many : mostRows < s .r → ps ≡ encodedByRows s ds ps
+  unfolding encodedByRows
+  encoded-too-many h = sym (ap (λ (b : Bool). cond b (encoded s ds ps) ps) (lt-leb (s .r) mostRows h))
 
 -- what encoding leaves in a buffer as long as a parity that is not refused
 pub made : (s : Shape) (ds ps ms ns : List ℕ) → lentRefusal s (length ds) (length ps) ≡ 0 → length ms ≡ length ps → ns ≡ encoded s ds ms → ns ≡ parity s ds

@@ -4,9 +4,10 @@ use mathlib.Core.Path.{_≡_}
 use mathlib.Core.Bool.{cond}
 use mathlib.Core.List.{List}
 use mathlib.Core.Logic.{_⊎_}
-use lib.Dec.{eqb}
+use lib.Dec.{eqb, leb}
 use lib.ListN.{length, getD}
 use Rattle.stripe.specs.declared.Shape.{Shape}
+use Rattle.stripe.specs.Shape.{mostRows}
 use Rattle.stripe.specs.Column.{lentRefusal}
 use Rattle.stripe.specs.Stripe.{rowAt, parityByte, parity}
 
@@ -17,6 +18,10 @@ encodeRefusal s d p = lentRefusal s d p
 -- what the lent parity holds afterwards: the parity of the data, or where that is refused what it held
 unfoldable pub encoded : Shape → List ℕ → List ℕ → List ℕ
 encoded s ds ps = cond (eqb (encodeRefusal s (length ds) (length ps)) 0) (parity s ds) ps
+
+-- what it holds after an encoding by rows: the same, or with more than `mostRows` parity columns what it held
+unfoldable pub encodedByRows : Shape → List ℕ → List ℕ → List ℕ
+encodedByRows s ds ps = cond (leb (s .r) mostRows) (encoded s ds ps) ps
 
 -- column i of ps is row i of the data; is the parity column
 abbrev pub IsRow : Shape → List ℕ → ℕ → List ℕ → Type 0

@@ -1,4 +1,5 @@
 // Encoding of stripes given by check equations: the constants of the shape, times the data columns.
+use constants::MOST_CONSTANTS;
 use constants::encoding;
 use constants::in_order;
 use matrix::apply;
@@ -21,7 +22,7 @@ pub(crate) fn fill_by_points(s: Shape, data: &[u8], out: &mut [u8])
         fill_by(s, data, &mut w[0..n], out);
         return;
     }
-    let mut w = [0u8; 4080];
+    let mut w = [0u8; MOST_CONSTANTS];
     fill_by(s, data, &mut w[0..n], out);
 }
 

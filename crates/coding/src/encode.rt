@@ -1,5 +1,6 @@
 // Encoding: the parity of lent data, filled into a lent buffer. With r above 3 that is done in `by_points`. By rows, first every parity
-// column is its row; a prepared stripe then has its piggybacks added, run by run.
+// column is its row; a prepared stripe then has its piggybacks added, run by run. Callers whose r is at most 3 need not pay for the
+// stack that points take: `encode_by_rows` is for them.
 use crate::by_points::fill_by_points;
 use rows::add_row;
 use rows::fill_rows;
@@ -11,7 +12,7 @@ ghost use mathlib.Core.Bool.{false};
 ghost use Prim.Native.Nat.{ℕ, _<_};
 ghost use lib.ListN.{length};
 ghost use Rattle.stripe.specs.Stripe.{byPoints, parity};
-ghost use Rattle.coding.specs.Encode.{encodeRefusal, encoded, IsRow, IsParity, Beside};
+ghost use Rattle.coding.specs.Encode.{encodeRefusal, encoded, encodedByRows, IsRow, IsParity, Beside};
 
 // 0, and the parity of the data is filled in; or 1, 2 or 5, and nothing is written.
 pub fn encode(s: Shape, data: &[u8], parity: &mut [u8]) -> u32
@@ -24,6 +25,19 @@ pub fn encode(s: Shape, data: &[u8], parity: &mut [u8]) -> u32
     }
     fill_parity(s, data, parity);
     0
+}
+
+// The same by rows, with no answer: the parity of the data is filled in where r is at most MOST_ROWS and nothing is refused.
+pub fn encode_by_rows(s: Shape, data: &[u8], parity: &mut [u8])
+    ensures { λ _. ⌜ now (parity .exit) ≡ encodedByRows s (now («data» .entry)) (now (parity .entry)) ⌝ }
+{
+    if MOST_ROWS < s.r {
+        return;
+    }
+    if lent_refusal(s, data.len(), parity.len()) != 0 {
+        return;
+    }
+    fill_by_rows(s, data, parity);
 }
 
 // The parity of the data.

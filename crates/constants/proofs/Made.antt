@@ -1,18 +1,31 @@
 -- What is filled in where the numbers fit: the constants by definition, and how many they are.
 use mathlib.Core.Path.{_≡_, sym, ap, ap₂, _∙_}
 use mathlib.Core.Bool.{Bool, cond, _&&_}
+use mathlib.Core.Logic.{_⊎_, inl, inr}
 use mathlib.Core.List.{List}
-use Prim.Native.Nat.{ℕ, _+_, _*_, _≤_}
+use Prim.Native.Nat.{ℕ, _+_, _-_, _*_, _<_, _≤_}
+use native.Mathlib.Nat.{mul-le-mul, mul-le-mul-left, add-mul}
 use native.Mathlib.Omega.{arith}
 use lib.ListN.{length}
 use borrow.Author.Tests.{le-leb, eq-eqb}
 use Rattle.field.proofs.Bytes.{tabulate-length}
+use Rattle.field.proofs.Cases.{below-or-from}
 use Rattle.points.specs.Points.{dataPoints, parityPoints}
 use Rattle.points.specs.Folding.{foldPoints}
 use Rattle.points.proofs.Distinct.{data-points-length, parity-points-length}
 use Rattle.lagrange.specs.Weights.{weightsFit, weightsOf, weighed}
-use Rattle.constants.specs.Constants.{encodingOf, foldingOf, encodes, folds}
+use Rattle.constants.specs.Constants.{mostConstants, encodingOf, foldingOf, encodes, folds}
 use Rattle.constants.proofs.Points.{fold-points-length}
+
+-- r rows of constants for m columns that leave room for r more
+pub few-constants : (r m : ℕ) → r ≤ 16 → m + r ≤ 255 → r * m ≤ mostConstants
+few-constants r m h e = go (below-or-from m 16)
+  where
+    go : (m < 16) ⊎ (16 ≤ m) → r * m ≤ mostConstants
+    go (inl g) = let g′ : m ≤ 16 = omega arith in omega (arith, mul-le-mul {n₂ = 16} {m₂ = 16} h g′)
+    go (inr g) =
+        let all : (r + (16 - r)) * m ≡ 16 * m = ap (λ (x : ℕ). x * m) (let same : r + (16 - r) ≡ 16 = omega arith in same) in
+        omega (arith, all, add-mul r (16 - r) m, mul-le-mul-left (16 - r) g)
 
 -- what fits is what is made
 pub weights-made : (bs ys out : List ℕ) (r m : ℕ) → length bs ≡ r → length ys ≡ m → r ≤ 16 → m ≤ 255 → length out ≡ r * m → weighed bs ys out ≡ weightsOf bs ys

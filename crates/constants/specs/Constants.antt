@@ -9,6 +9,10 @@ use Rattle.points.specs.Mending.{entries}
 use Rattle.points.specs.Folding.{foldPoints}
 use Rattle.lagrange.specs.Weights.{weightsOf, weighed}
 
+-- the most constants: of 16 columns that are made from 239 others
+abbrev pub mostConstants : ℕ
+mostConstants = 16 * 239
+
 -- what each of k data bytes counts in each of r parity bytes
 unfoldable pub encodingOf : ℕ → ℕ → List ℕ
 encodingOf k r = weightsOf (parityPoints r) (dataPoints k)

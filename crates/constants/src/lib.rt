@@ -17,6 +17,8 @@ ghost use Rattle.constants.specs.Constants.{encodes, folds, mends};
 const POINTS: usize = 255;
 // The most columns that are made.
 const MADE: usize = 16;
+// The most constants: of as many columns made from all others.
+pub const MOST_CONSTANTS: usize = MADE * (POINTS - MADE);
 
 // ---- points
 

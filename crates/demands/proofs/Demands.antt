@@ -1,10 +1,10 @@
 -- The three demands, sentence by sentence, as theorems on what the calls promise (`specs/Calls.antt`). Nothing here says how a call works: the
--- theorems cite document 01's definitions alone. A list of bytes that a call is lent is a list of numbers below 256 (`Bytes`).
+-- theorems cite the definitions of documents 01 and 02 alone. A list of bytes that a call is lent is a list of numbers below 256 (`Bytes`).
 use Prim.Native.Nat.{ℕ, _+_, _*_, _/_, _<_, _≤_}
 use mathlib.Core.Path.{_≡_, refl, sym, ap, ap₂, _∙_, subst}
-use mathlib.Core.Bool.{Bool}
+use mathlib.Core.Bool.{Bool, false, true≢false}
 use mathlib.Core.Logic.{_⊎_, inl, inr, _↔_}
-use mathlib.Core.List.{List, [], _++_}
+use mathlib.Core.List.{List, [], _++_, map}
 use native.Mathlib.Omega.{arith}
 use borrow.Author.Tests.{eqb-true, eq-eqb, leb-true, le-leb}
 use lib.Dec.{eqb, leb}
@@ -14,10 +14,12 @@ use Rattle.field.specs.Bytes.{Bytes, over}
 use Rattle.field.specs.Row.{row}
 use Rattle.field.proofs.Xor.{add-self}
 use Rattle.field.proofs.Powers.{sum-zero}
-use Rattle.field.proofs.Cases.{zero-or-not}
+use Rattle.field.proofs.Cases.{zero-or-not, same-or-not}
+use Rattle.points.specs.Points.{points, paritySum}
+use Rattle.points.proofs.Distinct.{points-distinct}
 use Rattle.stripe.specs.declared.Shape.{Shape}
-use Rattle.stripe.specs.Shape.{shapeRefusal, columns, stripeLength}
-use Rattle.stripe.specs.Stripe.{across, rowAt, parityByte, parity, dataOf, Codeword, Ascending, Agree, plainRuns}
+use Rattle.stripe.specs.Shape.{shapeRefusal, mostRows, columns, stripeLength}
+use Rattle.stripe.specs.Stripe.{byPoints, across, rowAt, checkSum, parityByte, parity, dataOf, parityOf, Codeword, Ascending, Agree, plainRuns}
 use Rattle.stripe.specs.Column.{lentRefusal}
 use Rattle.coding.specs.Encode.{encoded}
 use Rattle.lost.specs.Positions.{positions}
@@ -39,7 +41,7 @@ use Rattle.shelf.specs.Shelf.{shapeOf, spansRefusal, spansFilled}
 use Rattle.demands.specs.Calls.{Names, Encodes, Mends, Folds, PlanRefuses, PlanColumns, PlanBytes, PlanSpans, Column, Reads, Writes, MendsRecord, Prints}
 use Rattle.demands.specs.Calls.{encodeTable, mendTable, planTable, foldTable, spansTable, readTable, writeTable, RecordJudged, mendedAnswer}
 use Rattle.demands.specs.Calls.{refusedAnswer, textWith}
-use Rattle.stripe.proofs.Allowed.{allowed, all-by-rows}
+use Rattle.stripe.proofs.Allowed.{allowed, few-by-rows, many-by-points, points-fit, prepared-by-rows}
 use Rattle.stripe.proofs.Places.{parity-at, parity-below, parity-from, plain-parity}
 use Rattle.stripe.proofs.Codewords.{codeword-checks, encoded-codeword}
 use Rattle.equations.proofs.Codes.{determined, completed}
@@ -50,6 +52,7 @@ use Rattle.plan.proofs.Counted.{columns-counted, bytes-counted}
 use Rattle.plan.proofs.Costs.{plain-columns, plain-bytes, prepared-bytes}
 use Rattle.fold.proofs.Cut.{cut-length}
 use Rattle.fold.proofs.Shows.{named-few, folded-parity, one-shows}
+use Rattle.fold.proofs.Pointed.{stale-shows}
 use Rattle.record.proofs.Refusals.{first-zero, skip, end, stripe-lawful}
 use Rattle.record.proofs.Accepted.{unless-zero}
 use Rattle.writing.proofs.Inverse.{accepts, accepts-no-other, count-back, filled-back, bytes-back}
@@ -57,6 +60,7 @@ use Rattle.demands.proofs.Contracts.{AllMet, all-met}
 use Rattle.demands.proofs.Answers.{done, left, got-number, written-number, Outcome, passed}
 use Rattle.demands.proofs.Mended.{record-judged, laid-shape, laid-lost, laid-described}
 use Rattle.demands.proofs.Runs.{in-run}
+use Rattle.demands.proofs.Sums.{points-here, from-parity, new-sums}
 use Rattle.demands.proofs.Named.{names-parity, parity-named}
 use Rattle.demands.proofs.Tables.{encode-table, mend-table, plan-table, fold-table, spans-table, read-table, write-table}
 
@@ -250,20 +254,24 @@ demand-2-codeword k r t l ds ps v ps′ b p z =
     subst (λ (qs : List ℕ). Codeword (shapeOf k r t l) (ds ++ qs)) (sym (demand-2-parity k r t l ds ps v ps′ p z))
     (encoded-codeword (shapeOf k r t l) ds b (lent (shapeOf k r t l) (length ds) (length ps) (sym (p .0) ∙ z) .data-long))
 
--- In a plain stripe parity column i holds at each place row i of the data bytes there: the sum over c of g^(c*i) times the byte of column c.
-pub demand-2-plain : (s : Shape) → shapeRefusal s ≡ 0 → s .t ≡ 0 → (ds : List ℕ) (i p : ℕ) → i < s .r → p < s .l
+-- In a plain stripe with r up to 3 parity column i holds at each place row i of the data bytes there: the sum over c of g^(c*i) times the byte of
+-- column c.
+pub demand-2-plain : (s : Shape) → shapeRefusal s ≡ 0 → s .r ≤ mostRows → s .t ≡ 0 → (ds : List ℕ) (i p : ℕ) → i < s .r → p < s .l
     → getD (parity s ds) (i * s .l + p) 0 ≡ row i (across ds (s .l) p 0 (s .k))
 unfolding rowAt
-demand-2-plain s h plain ds i p hi hp = parity-at s ds i p hi hp ∙ plain-parity s ds i p (allowed s h) (all-by-rows s h) plain hp
+demand-2-plain s h few plain ds i p hi hp = parity-at s ds i p hi hp ∙ plain-parity s ds i p (allowed s h) (few-by-rows s few) plain hp
 
 -- In a prepared stripe parity column i, run j, holds row i of run j if j < r; if j >= r, row i of run j plus row j of run i.
 module _ (s : Shape) (h : shapeRefusal s ≡ 0) (prepared : s .t ≡ 0 → ⊥) (ds : List ℕ) (i j e : ℕ) (hi : i < s .r) (hj : j < s .t) (he : e < s .l / s .t) where
+  by-rows : byPoints s ≡ false
+  by-rows = prepared-by-rows s (allowed s h) (omega arith)
+
   pub demand-2-prepared : j < plainRuns s
       → getD (parity s ds) (i * s .l + (j * (s .l / s .t) + e)) 0 ≡ row i (across ds (s .l) (j * (s .l / s .t) + e) 0 (s .k))
   unfolding rowAt
   demand-2-prepared low =
       let at = in-run s h prepared j e hj he in
-      parity-at s ds i _ hi (at .inside) ∙ parity-below s ds i _ (all-by-rows s h) (subst (λ (x : ℕ). x < plainRuns s) (sym (at .run)) low)
+      parity-at s ds i _ hi (at .inside) ∙ parity-below s ds i _ by-rows (subst (λ (x : ℕ). x < plainRuns s) (sym (at .run)) low)
 
   pub demand-2-piggyback : plainRuns s ≤ j
       → getD (parity s ds) (i * s .l + (j * (s .l / s .t) + e)) 0
@@ -271,10 +279,33 @@ module _ (s : Shape) (h : shapeRefusal s ≡ 0) (prepared : s .t ≡ 0 → ⊥) 
   unfolding rowAt
   demand-2-piggyback high =
       let at = in-run s h prepared j e hj he in
-      parity-at s ds i _ hi (at .inside) ∙ parity-from s ds i _ (all-by-rows s h) (subst (λ (x : ℕ). plainRuns s ≤ x) (sym (at .run)) high)
+      parity-at s ds i _ hi (at .inside) ∙ parity-from s ds i _ by-rows (subst (λ (x : ℕ). plainRuns s ≤ x) (sym (at .run)) high)
       ∙ ap (λ (x : ℕ). rowAt s ds i (j * (s .l / s .t) + e) ⊕ x) (ap₂ (rowAt s ds) (at .run) (ap₂ (λ (w b : ℕ). i * w + b) (at .width) (at .byte)))
 
--- Any k columns of a codeword determine it, and any bytes in any k columns belong to one.
+-- With r above 3 (document 02, request 6) data column i has the point g^i, parity column j the point g^(254-j) (`points`), and a stripe of bytes is a
+-- codeword exactly when at each place p, for every u below r, the sum over all positions of point^u times byte is zero (`checkSum`).
+pub demand-2-codeword-equations : (s : Shape) → shapeRefusal s ≡ 0 → mostRows < s .r → (xs : List ℕ) → Bytes xs → length xs ≡ stripeLength s
+    → Codeword s xs ↔ ((p u : ℕ) → p < s .l → u < s .r → checkSum s xs p u ≡ 0)
+demand-2-codeword-equations s h above xs b long =
+    let here = many-by-points s above (allowed s h .parity-most) in (
+      λ w. w .sums here,
+      λ zeros. record { bytes = b; long = long; exact = λ rows. absurd (true≢false (sym here ∙ rows)); sums = λ e. zeros },
+    )
+
+-- All these sums are zero for the data followed by what encoding fills in.
+pub demand-2-equations : (k r t l : ℕ) (ds ps : List ℕ) (v : ℕ) (ps′ : List ℕ) → Bytes ds → Encodes k r t l ds ps v ps′ → v ≡ 0 → mostRows < r
+    → (p u : ℕ) → p < l → u < r → checkSum (shapeOf k r t l) (ds ++ ps′) p u ≡ 0
+demand-2-equations k r t l ds ps v ps′ b p z above =
+    let passed = lent (shapeOf k r t l) (length ds) (length ps) (sym (p .0) ∙ z) .shape in
+    demand-2-codeword k r t l ds ps v ps′ b p z .sums (many-by-points (shapeOf k r t l) above (allowed (shapeOf k r t l) passed .parity-most))
+
+-- No two positions have the same point, since k+r is at most 255.
+pub demand-2-points-distinct : (s : Shape) → shapeRefusal s ≡ 0 → mostRows < s .r → (c d : ℕ) → c < columns s → d < columns s
+    → getD (points (s .k) (s .r)) c 0 ≡ getD (points (s .k) (s .r)) d 0 → c ≡ d
+demand-2-points-distinct s h above =
+    points-distinct (s .k) (s .r) (points-fit s (allowed s h) (many-by-points s above (allowed s h .parity-most)))
+
+-- Any k columns of a codeword determine it, and any bytes in any k columns belong to one: for every allowed shape, r from 1 to 16.
 pub demand-2-determined : (s : Shape) → shapeRefusal s ≡ 0 → (es : List ℕ) → Ascending 0 (columns s) es → length es ≤ s .r
     → (xs ys : List ℕ) → Codeword s xs → Codeword s ys → Agree s es xs ys → xs ≡ ys
 demand-2-determined = determined
@@ -437,6 +468,20 @@ module _ (k r t l f : ℕ) (zss : List (List ℕ)) (planned : PlanRefuses k r t 
   demand-3-parity codewords ps room v ps′ p =
       let q = folded ps v ps′ (λ x h. codewords x h .long) room p in (q .0, q .1 ∙ folded-parity old f zss (sym planned) codewords)
 
+  -- With r above 3 and k >= r, for all bytes, codewords or not: at each place p, for every u below r, sum u of the new parity is the sum over the
+  -- stripes x of g^(k*x*u) times sum u of stripe x's old parity, which is row k*u of these.
+  pub demand-3-sums : mostRows < r → r ≤ k → ((x : ℕ) → x < n → length (getD zss x []) ≡ stripeLength old) → (ps : List ℕ) → length ps ≡ f * l
+      → (v : ℕ) (ps′ : List ℕ) → Folds k r t l n f named ps v ps′
+      → (v ≡ 0)
+      × ((p u : ℕ) → p < l → u < r
+      → paritySum u (across ps′ l p 0 r) ≡ row (k * u) (map (λ zs. paritySum u (across (parityOf old zs) l p 0 r)) zss))
+  demand-3-sums above enough long ps room v ps′ q =
+      let a = folded ps v ps′ long room q in (
+        a .0,
+        λ p u hp hu.
+            ap (λ (qs : List ℕ). paritySum u (across qs l p 0 r)) (a .1) ∙ new-sums old f zss (sym planned) above enough long p u hp hu,
+      )
+
   -- One stripe disagrees with its own parity in a byte that the plan names, and every other agrees with its own in all parity bytes that the plan
   -- names: the wide stripe is no codeword.
   pub demand-3-stale-shows : ((x : ℕ) → x < n → length (getD zss x []) ≡ stripeLength old)
@@ -471,6 +516,23 @@ module _ (k r t l f : ℕ) (zss : List (List ℕ)) (planned : PlanRefuses k r t 
       codeword-checks old (getD zss y []) (others y h ne) j o
       (omega (arith, at .1 .0, named-few old f (foldable old n f (sym planned) .kinds))) (at .1 .1))
 
+  -- With r above 3 and k >= r, where the plan names all parity columns: one stripe is no codeword and all others are, and the wide stripe is none.
+  pub demand-3-stale-stripe-shows : mostRows < r → r ≤ k → (x : ℕ) → x < n → Bytes (getD zss x []) → length (getD zss x []) ≡ stripeLength old
+      → (Codeword old (getD zss x []) → ⊥) → ((y : ℕ) → y < n → (y ≡ x → ⊥) → Codeword old (getD zss y []))
+      → (ps : List ℕ) → length ps ≡ f * l → (v : ℕ) (ps′ : List ℕ) → Folds k r t l n f named ps v ps′
+      → Codeword wide (wideData old zss ++ ps′) → ⊥
+  unfolding wideStripe
+  demand-3-stale-stripe-shows above enough x within bytes whole stale others ps room v ps′ q w =
+      stale-shows old f zss (sym planned) long (points-here old n f (sym planned) above) (from-parity old n f (sym planned) above enough) x within others
+      bytes stale (subst (λ (qs : List ℕ). Codeword wide (wideData old zss ++ qs)) (folded ps v ps′ long room q .1) w)
+    where
+      long : (y : ℕ) → y < n → length (getD zss y []) ≡ stripeLength old
+      long y h = go (same-or-not y x)
+        where
+          go : (y ≡ x) ⊎ (y ≡ x → ⊥) → length (getD zss y []) ≡ stripeLength old
+          go (inl e) = subst (λ (i : ℕ). length (getD zss i []) ≡ stripeLength old) (sym e) whole
+          go (inr ne) = others y h ne .long
+
   -- The volume reported is the length of what the fold is handed, and the summed length of the plan's spans.
   pub demand-3-volume : ((x : ℕ) → x < n → length (getD zss x []) ≡ stripeLength old) → (v : ℕ) → PlanBytes k r t l n f v
       → (v ≡ length named) × (v ≡ summed (plan old n f))
@@ -480,7 +542,8 @@ module _ (k r t l f : ℕ) (zss : List (List ℕ)) (planned : PlanRefuses k r t 
 pub demand-3-columns : (k r t l n f v : ℕ) → PlanColumns k r t l n f v → v ≡ length (plan (shapeOf k r t l) n f)
 demand-3-columns k r t l n f v p = p ∙ sym (columns-counted (shapeOf k r t l) n f)
 
--- The published cost. Plain stripes: 003, Theorem 12, in columns, and L bytes to a column.
+-- The published cost. Plain stripes: 003, Theorem 12, in columns, and L bytes to a column. With r above 3, where f = r, these are the N*r parity columns
+-- if k >= r, else the N*k data columns.
 pub demand-3-cost-plain : (k r l n f : ℕ) → PlanRefuses k r 0 l n f 0 → (v w : ℕ) → PlanColumns k r 0 l n f v → PlanBytes k r 0 l n f w
     → (v ≡ columnsNeeded n k r f) × (w ≡ columnsNeeded n k r f * l)
 demand-3-cost-plain k r l n f planned v w p q =

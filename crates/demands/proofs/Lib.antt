@@ -4,7 +4,9 @@ pub mod Named
 pub mod Answers
 pub mod Mended
 pub mod Runs
+pub mod Sums
 pub mod Demands
 pub mod Stale
 pub mod Worked
 pub mod Points
+pub mod Cancelled

@@ -1,6 +1,6 @@
 -- All starred examples hold: most by computing both sides from the definitions; that no codeword agrees with the stale stripe's
--- survivors, since the only stripe that could, the mended one, has another last byte.
-use mathlib.Core.Path.{_≡_, refl}
+-- survivors, since the only stripe that could, the mended one, has another last byte. Our own hold too, the folds step by step.
+use mathlib.Core.Path.{_≡_, refl, ap, _∙_}
 use mathlib.Core.Bool.{Bool, true, false, true≢false, _&&_}
 use mathlib.Core.Logic.{inl, inr}
 use mathlib.Core.List.{List, [], _∷_}
@@ -24,13 +24,15 @@ use Rattle.stripe.proofs.Codewords.{codeword-of}
 use Rattle.lost.specs.Positions.{positions, listRefusal}
 use Rattle.mending.specs.Mend.{mendRefusal, Restored, Mended}
 use Rattle.plan.specs.Plan.{foldRefusal, kindOf, columnSpans, kindSpans, spansFrom, plan, columnsEach, bytesEach, columnsRead, bytesRead}
-use Rattle.fold.specs.Fold.{foldByRows, readParity, readRow, runShare, share, foldByte, foldStripes, foldOf, named, cutOut}
-use Rattle.points.specs.Folding.{parts}
+use Rattle.equations.specs.Whole.{foldColumns}
+use Rattle.fold.specs.Fold.{foldByRows, foldByPoints, readParity, readRow, runShare, share, foldByte, foldStripes, foldOf, named, cutOut}
+use Rattle.points.specs.Folding.{joined, parts}
 use Rattle.number.specs.Number.{groups, groupsAt}
 use Rattle.record.specs.Reading.{firstOf, headRefusal, contentRefusal, positionsRefusal, afterPositions, stripeRefusal, readRefusal}
-use Rattle.demands.specs.Worked.{shape, stale, accepted, Holds, AllHold, worked}
+use Rattle.demands.specs.Worked.{shape, stale, accepted, Holds, AllHold, worked, pointsPair, narrowPair, ours}
+use Rattle.demands.proofs.Points.{one, two, narrow-one, narrow-two, folded, parity-columns, folded-columns}
 
-small : List ℕ → Bool
+unfoldable pub small : List ℕ → Bool
 small [] = true
 small (x ∷ xs) = ltb x 256 && small xs
 
@@ -38,7 +40,7 @@ both : (a b : Bool) → T (a && b) → T a × T b
 both true b t = (tt, t)
 both false b t = absurd t
 
-bytes : (xs : List ℕ) → T (small xs) → Bytes xs
+pub bytes : (xs : List ℕ) → T (small xs) → Bytes xs
 unfolding small
 bytes [] t i = lit< tt
 bytes (x ∷ xs) t zero = ltb→lt x 256 (both (ltb x 256) (small xs) t .0)
@@ -137,6 +139,51 @@ worked-hold = (
           ),
         ),
       ),
+    ),
+  ),
+)
+
+-- ---- our own
+
+encoded : parity (shape 4 4 0 1) (0x01 ∷ 0x02 ∷ 0x03 ∷ 0x04 ∷ []) ≡ 0x60 ∷ 0x9B ∷ 0x1C ∷ 0xE3 ∷ []
+unfolding across
+encoded = parity-columns 4 (0x01 ∷ 0x02 ∷ 0x03 ∷ 0x04 ∷ []) 0x60 0x9B 0x1C 0xE3 one
+
+-- with k >= r the parity columns are read, and the new ones have their sums
+columns-read : cutOut (shape 4 4 0 1) pointsPair (plan (shape 4 4 0 1) 2 4) ≡ 0x60 ∷ 0x9B ∷ 0x1C ∷ 0xE3 ∷ 0x77 ∷ 0x00 ∷ 0x4B ∷ 0x30 ∷ []
+unfolding cutOut named plan foldRefusal shapeRefusal spansFrom kindSpans columnSpans kindOf
+columns-read = refl
+
+columns-folded : foldOf (shape 4 4 0 1) 2 4 (0x60 ∷ 0x9B ∷ 0x1C ∷ 0xE3 ∷ 0x77 ∷ 0x00 ∷ 0x4B ∷ 0x30 ∷ [])
+    ≡ foldColumns 4 4 1 ((0x60 ∷ 0x9B ∷ 0x1C ∷ 0xE3 ∷ []) ∷ (0x77 ∷ 0x00 ∷ 0x4B ∷ 0x30 ∷ []) ∷ [])
+unfolding foldOf foldStripes foldByPoints kindOf bytesEach byPoints parts
+columns-folded = refl
+
+from-columns : foldOf (shape 4 4 0 1) 2 4 (cutOut (shape 4 4 0 1) pointsPair (plan (shape 4 4 0 1) 2 4)) ≡ 0x7C ∷ 0x16 ∷ 0xAB ∷ 0xC9 ∷ []
+unfolding across
+from-columns = ap (foldOf (shape 4 4 0 1) 2 4) columns-read ∙ columns-folded ∙ folded-columns 4 _ 0x7C 0x16 0xAB 0xC9 folded
+
+-- with k < r the data are read, and the new parity is theirs
+data-read : cutOut (shape 2 4 0 1) narrowPair (plan (shape 2 4 0 1) 2 4) ≡ 0x01 ∷ 0x02 ∷ 0x03 ∷ 0x04 ∷ []
+unfolding cutOut named plan foldRefusal shapeRefusal spansFrom kindSpans columnSpans kindOf
+data-read = refl
+
+data-folded : foldOf (shape 2 4 0 1) 2 4 (0x01 ∷ 0x02 ∷ 0x03 ∷ 0x04 ∷ []) ≡ parity (shape 4 4 0 1) (0x01 ∷ 0x02 ∷ 0x03 ∷ 0x04 ∷ [])
+unfolding foldOf foldStripes foldByPoints kindOf bytesEach byPoints parts joined
+data-folded = refl
+
+from-data : foldOf (shape 2 4 0 1) 2 4 (cutOut (shape 2 4 0 1) narrowPair (plan (shape 2 4 0 1) 2 4)) ≡ 0x60 ∷ 0x9B ∷ 0x1C ∷ 0xE3 ∷ []
+from-data = ap (foldOf (shape 2 4 0 1) 2 4) data-read ∙ data-folded ∙ encoded
+
+pub ours-hold : AllHold ours
+unfolding ours AllHold Holds across foldRefusal shapeRefusal kindOf columnsEach bytesEach columnsRead bytesRead
+ours-hold = (
+  encoded,
+  (
+    parity-columns 4 (0x05 ∷ 0x06 ∷ 0x07 ∷ 0x08 ∷ []) 0x77 0x00 0x4B 0x30 two,
+    (
+      parity-columns 2 (0x01 ∷ 0x02 ∷ []) 0xC9 0x98 0xC1 0x93 narrow-one,
+      (parity-columns 2 (0x03 ∷ 0x04 ∷ []) 0x80 0x1B 0xE7 0x7B narrow-two, ((from-columns, refl, refl), ((from-data, refl, refl), tt))),
     ),
   ),
 )

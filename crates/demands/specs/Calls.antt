@@ -80,9 +80,9 @@ MendsRecord bs xs es v xs′ es′ = Answered bs xs es v xs′ es′
 abbrev pub Prints : List ℕ → List ℕ → ℕ → List ℕ → Type 0
 Prints bs out v out′ = Printed bs out v out′
 
--- ---- document 01's table
+-- ---- document 01's table, which document 02, request 6, extends to r above 3
 
--- k, r and t are allowed
+-- k, r and t are allowed: where r is above 3, only with t = 0 and k+r at most 255 (document 02, request 6)
 abbrev pub numbersAllowed : Shape → Bool
 numbersAllowed s = dataAllowed (s .k) && parityAllowed (s .r) && pointsAllowed (s .k) (s .r) && markAllowed (s .k) (s .r) (s .t)
 

@@ -1,4 +1,5 @@
--- The starred examples of document 01, 'Worked stripes': one list, and what it means that an example holds.
+-- The starred examples of document 01, 'Worked stripes': one list, and what it means that an example holds. A second list has examples of
+-- our own, with r above 3.
 use mathlib.Core.Path.{_≡_}
 use mathlib.Core.List.{List, [], _∷_}
 use Prim.Native.Nat.{ℕ}
@@ -78,4 +79,24 @@ worked =
     ∷ Written 300 (0xAC ∷ 0x02 ∷ [])
     ∷ Read (0x80 ∷ 0x00 ∷ []) 9
     ∷ Read [] 9
+    ∷ []
+
+-- ---- our own: four parity columns, given by check equations (document 02, request 6)
+
+-- two stripes with k >= r, whole, and two with k < r
+abbrev pub pointsPair : List (List ℕ)
+pointsPair =
+    (0x01 ∷ 0x02 ∷ 0x03 ∷ 0x04 ∷ 0x60 ∷ 0x9B ∷ 0x1C ∷ 0xE3 ∷ []) ∷ (0x05 ∷ 0x06 ∷ 0x07 ∷ 0x08 ∷ 0x77 ∷ 0x00 ∷ 0x4B ∷ 0x30 ∷ []) ∷ []
+
+abbrev pub narrowPair : List (List ℕ)
+narrowPair = (0x01 ∷ 0x02 ∷ 0xC9 ∷ 0x98 ∷ 0xC1 ∷ 0x93 ∷ []) ∷ (0x03 ∷ 0x04 ∷ 0x80 ∷ 0x1B ∷ 0xE7 ∷ 0x7B ∷ []) ∷ []
+
+unfoldable pub ours : List Case
+ours =
+    Parity (shape 4 4 0 1) (0x01 ∷ 0x02 ∷ 0x03 ∷ 0x04 ∷ []) (0x60 ∷ 0x9B ∷ 0x1C ∷ 0xE3 ∷ [])
+    ∷ Parity (shape 4 4 0 1) (0x05 ∷ 0x06 ∷ 0x07 ∷ 0x08 ∷ []) (0x77 ∷ 0x00 ∷ 0x4B ∷ 0x30 ∷ [])
+    ∷ Parity (shape 2 4 0 1) (0x01 ∷ 0x02 ∷ []) (0xC9 ∷ 0x98 ∷ 0xC1 ∷ 0x93 ∷ [])
+    ∷ Parity (shape 2 4 0 1) (0x03 ∷ 0x04 ∷ []) (0x80 ∷ 0x1B ∷ 0xE7 ∷ 0x7B ∷ [])
+    ∷ Fold (shape 4 4 0 1) 4 pointsPair (0x7C ∷ 0x16 ∷ 0xAB ∷ 0xC9 ∷ []) 8 8
+    ∷ Fold (shape 2 4 0 1) 4 narrowPair (0x60 ∷ 0x9B ∷ 0x1C ∷ 0xE3 ∷ []) 4 4
     ∷ []

@@ -11,7 +11,8 @@ use borrow.Author.Tests.{eq-eqb}
 use Rattle.field.specs.Row.{row}
 use Rattle.stripe.specs.declared.Shape.{Shape}
 use Rattle.stripe.specs.Column.{lentRefusal}
-use Rattle.coding.specs.Encode.{encoded}
+use Rattle.coding.specs.Encode.{encodedByRows}
+use Rattle.coding.proofs.Encoded.{encoded-done, encoded-by-rows}
 use Rattle.stripe.specs.Stripe.{across, byPoints, rowAt, parity}
 use Rattle.stripe.proofs.Places.{parity-exact}
 use Rattle.plan.specs.declared.Kind.{Kind}
@@ -77,9 +78,13 @@ module _ (s : Shape) (n f : ℕ) (passed : foldRefusal s n f ≡ 0) where
         go false e = rows-parity e
         go true e = points-parity e
 
-    -- so encoding fills in the fold's answer
-    pub encoded-fold : (ys : List ℕ) → length ys ≡ f * s .l → encoded (wideShape s n f) xs ys ≡ foldOf s n f xs
-    unfolding encoded lentRefusal
-    encoded-fold ys e =
+    -- so encoding, by rows, fills in the fold's answer
+    pub wide-lent : (b : ℕ) → b ≡ f * s .l → lentRefusal (wideShape s n f) (length xs) b ≡ 0
+    unfolding lentRefusal
+    wide-lent b e =
         let d : length xs ≡ n * s .k * s .l = long-is ∙ sym (mul-assoc n (s .k) (s .l)) in
-        simp (eq-eqb _ _ (wide-allowed s n f passed), eq-eqb _ _ d, eq-eqb _ _ e) (sym fold-parity)
+        simp (eq-eqb _ _ (wide-allowed s n f passed), eq-eqb _ _ d, eq-eqb _ _ e)
+
+    pub encoded-fold : byPoints s ≡ false → (ys : List ℕ) → length ys ≡ f * s .l → encodedByRows (wideShape s n f) xs ys ≡ foldOf s n f xs
+    encoded-fold rows ys e =
+        encoded-by-rows (wideShape s n f) xs ys (able .new-rows rows) ∙ sym (encoded-done (wideShape s n f) xs ys (wide-lent (length ys) e)) ∙ sym fold-parity

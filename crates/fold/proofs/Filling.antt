@@ -16,13 +16,13 @@ use Rattle.field.proofs.Cases.{below-or-from}
 use Rattle.stripe.specs.declared.Shape.{Shape}
 use Rattle.stripe.specs.Stripe.{runs, runLength, byPoints, plainRuns}
 use Rattle.stripe.specs.Shape.{mostRows}
-use Rattle.stripe.proofs.Allowed.{Allowed, Prepared, allowed, plain-runs, prepared-runs, plain-run-length, prepared-run-length}
+use Rattle.stripe.proofs.Allowed.{Allowed, Prepared, allowed, few-by-rows, plain-runs, prepared-runs, plain-run-length, prepared-run-length}
 use Rattle.stripe.proofs.Places.{place-lt, place-column, place-byte, place-split, place-column-lt, place-byte-lt, column-inside}
 use Rattle.lanes.proofs.Parts.{part-length, part-at, back-length, back-inside, back-outside}
 use Rattle.plan.specs.declared.Kind.{Kind}
 use Rattle.plan.specs.declared.Kind.the-variants.{A, B, C}
 use Rattle.plan.specs.Plan.{foldRefusal, kindOf, bytesEach}
-use Rattle.plan.proofs.Foldable.{IsA, IsB, IsC, new-kinds, tests-passed}
+use Rattle.plan.proofs.Foldable.{IsA, IsB, IsC, Foldable, foldable, new-kinds, tests-passed}
 use Rattle.plan.proofs.Counted.{runs-sum}
 use Rattle.fold.specs.declared.shares.Share.{Share}
 use Rattle.fold.specs.declared.shares.Share.the-variants.{Read, Row, Both}
@@ -43,6 +43,15 @@ reads-kinds s f h = go (new-kinds s f (h .shape) (h .new))
 pub reads-parity : (s : Shape) (n f : ℕ) → foldRefusal s n f ≡ 0 → byPoints s ≡ false → (kindOf s f ≡ C → ⊥) → ReadsParity s f
 reads-parity s n f passed rows h =
     let p = tests-passed s n f passed in record { shape = p .0; new = p .1 .1; rows = rows; kind = h }
+
+-- kind B is by rows
+pub marked-by-rows : (s : Shape) (n f : ℕ) → foldRefusal s n f ≡ 0 → kindOf s f ≡ B → byPoints s ≡ false
+marked-by-rows s n f passed kind = go (foldable s n f passed .kinds)
+  where
+    go : IsA s f ⊎ (IsB s f ⊎ IsC s f) → byPoints s ≡ false
+    go (inl h) = absurd (let e = sym (h .kind) ∙ kind in let z : _≡_ {A = ℕ} 0 1 = cc in omega arith)
+    go (inr (inl h)) = few-by-rows s (let g = h .prepared in omega (arith, g .gains, g .mark-most))
+    go (inr (inr h)) = absurd (let e = sym (h .kind) ∙ kind in let z : _≡_ {A = ℕ} 0 1 = cc in omega arith)
 
 next-run : (b t q l : ℕ) → b < t → t * q ≡ l → b * q + q ≤ l
 next-run b t q l h e = omega (arith, mul-le-mul-right q h)

@@ -16,7 +16,8 @@ use Rattle.stripe.specs.Stripe.{across, rowAt, parity, runLength, byPoints}
 use Rattle.stripe.specs.Column.{lentRefusal}
 use Rattle.stripe.proofs.Allowed.{Allowed, Prepared, allowed, few-by-rows}
 use Rattle.stripe.proofs.Places.{parity-length, parity-at, plain-parity, across-take}
-use Rattle.coding.specs.Encode.{encoded}
+use Rattle.coding.specs.Encode.{encoded, encodedByRows}
+use Rattle.coding.proofs.Encoded.{encoded-by-rows}
 use Rattle.plan.specs.declared.Kind.{Kind}
 use Rattle.plan.specs.Plan.{kindOf, bytesEach}
 use Rattle.plan.proofs.Foldable.{IsA, IsB, new-least, new-limit, new-few}
@@ -84,7 +85,7 @@ module _ (s : Shape) (f : ℕ) (reads : ReadsParity s f) (some : partBytes s ≡
       )
 
   pub rows-done : (xs ys zs : List ℕ) → length xs ≡ bytesEach (kindOf s f) s f → length ys ≡ f * partBytes s
-      → zs ≡ encoded plain (take (s .k * partBytes s) xs) ys → IsRows s f xs zs
+      → zs ≡ encodedByRows plain (take (s .k * partBytes s) xs) ys → IsRows s f xs zs
   unfolding encoded lentRefusal rowAt
   rows-done xs ys zs xl yl is =
       record {
@@ -97,16 +98,17 @@ module _ (s : Shape) (f : ℕ) (reads : ReadsParity s f) (some : partBytes s ≡
       front = length-take-le (s .k * partBytes s) xs (omega (arith, part-in))
 
       zs-is : zs ≡ parity plain (take (s .k * partBytes s) xs)
-      zs-is = is ∙ simp (eq-eqb _ _ plain-allowed, eq-eqb _ _ front, eq-eqb _ _ yl)
+      zs-is = is ∙ encoded-by-rows plain _ ys few ∙ simp (eq-eqb _ _ plain-allowed, eq-eqb _ _ front, eq-eqb _ _ yl)
 
       row-is : (j p : ℕ) → p < partBytes s → rowAt plain (take (s .k * partBytes s) xs) j p ≡ row j (across xs (partBytes s) p 0 (s .k))
       row-is j p hp = ap (row j) (across-take xs (partBytes s) p (s .k) hp)
 
   -- the same, of numbers that are those of the definitions
   pub rows-by : (sh : Shape) (m : ℕ) → m ≡ partBytes s → (sh .k ≡ s .k) × ((sh .r ≡ f) × ((sh .t ≡ 0) × (sh .l ≡ m)))
-      → (xs ys zs : List ℕ) → length xs ≡ bytesEach (kindOf s f) s f → length ys ≡ f * partBytes s → zs ≡ encoded sh (take (s .k * m) xs) ys → IsRows s f xs zs
+      → (xs ys zs : List ℕ) → length xs ≡ bytesEach (kindOf s f) s f → length ys ≡ f * partBytes s → zs ≡ encodedByRows sh (take (s .k * m) xs) ys
+      → IsRows s f xs zs
   rows-by sh m e h xs ys zs xl yl is =
-      rows-done xs ys zs xl yl (is ∙ ap₂ (λ (u : Shape) (x : ℕ). encoded u (take (s .k * x) xs) ys) shape-is e)
+      rows-done xs ys zs xl yl (is ∙ ap₂ (λ (u : Shape) (x : ℕ). encodedByRows u (take (s .k * x) xs) ys) shape-is e)
     where
       shape-is : sh ≡ plain
       shape-is i = record { k = h .0 i; r = h .1 .0 i; t = h .1 .1 .0 i; l = (h .1 .1 .1 ∙ e) i }

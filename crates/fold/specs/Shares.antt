@@ -1,6 +1,6 @@
 -- How a fold by rows that reads parity, kind A or B, is computed: stripe by stripe, from the last to the first, and run by run of the
--- wide parity. What a stripe adds to a run is stored in the bytes read of it, in the rows of its data, or in both. A fold by points that
--- reads parity, kind A, takes all parity columns at once.
+-- wide parity. What a stripe adds to a run is stored in the bytes read of it, in the rows of its data, or in both. A fold by points, kind A
+-- or C, takes all columns read at once.
 use Prim.Native.Nat.{ℕ, _+_, _-_, _*_, _/_, _%_, _<_, _≤_}
 use mathlib.Core.Path.{_≡_}
 use mathlib.Core.Bool.{Bool, true, false, cond}
@@ -14,7 +14,8 @@ use Rattle.lanes.specs.Lanes.{onto}
 use Rattle.stripe.specs.declared.Shape.{Shape}
 use Rattle.stripe.specs.Shape.{shapeRefusal}
 use Rattle.stripe.specs.Stripe.{across, runLength, byPoints, plainRuns}
-use Rattle.plan.specs.declared.Kind.the-variants.{A, C}
+use Rattle.constants.specs.Constants.{encodingOf, foldingOf}
+use Rattle.plan.specs.declared.Kind.the-variants.{C}
 use Rattle.plan.specs.Plan.{foldRefusal, newAllowed, kindOf, bytesRead}
 use Rattle.fold.specs.declared.shares.Share.{Share}
 use Rattle.fold.specs.declared.shares.Share.the-variants.{Read, Row, Both}
@@ -27,13 +28,20 @@ pub record ReadsParity (s : Shape) (f : ℕ) : Type 0 where
   pub rows : byPoints s ≡ false
   pub kind : kindOf s f ≡ C → ⊥
 
--- a fold by points that reads parity, of n stripes of an allowed shape, is lent a bytes to read and b to fill; its f is r
+-- a fold by points, of n stripes of an allowed shape, is lent a bytes to read and b to fill; its f is r
 pub record ReadsColumns (s : Shape) (n a b : ℕ) : Type 0 where
   pub passed : foldRefusal s n (s .r) ≡ 0
   pub points : byPoints s ≡ true
-  pub kind : kindOf s (s .r) ≡ A
   pub read-long : a ≡ bytesRead s n (s .r)
   pub parity-long : b ≡ s .r * s .l
+
+-- how many columns such a fold reads of each stripe: its data columns if k < r, kind C, else its parity columns, kind A
+unfoldable pub readColumns : Shape → ℕ
+readColumns s = cond (ltb (s .k) (s .r)) (s .k) (s .r)
+
+-- what each byte read counts in each byte of the wide parity: as in the encoding of the wide stripe, or in the fold
+unfoldable pub readConstants : Shape → ℕ → List ℕ
+readConstants s n = cond (ltb (s .k) (s .r)) (encodingOf (n * s .k) (s .r)) (foldingOf (s .k) (s .r) n)
 
 -- ys holds rows 0 to f-1 of the data read of a stripe, one after the other; of a plain stripe no data are read
 pub record IsRows (s : Shape) (f : ℕ) (xs ys : List ℕ) : Type 0 where

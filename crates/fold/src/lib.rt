@@ -4,7 +4,7 @@ ghost use Prim.Native.Nat.{_*_};
 ghost use lib.ListN.{length};
 ghost use Rattle.plan.specs.Plan.{foldRefusal, bytesRead};
 ghost use Rattle.fold.specs.Fold.{foldOf, foldVerdict, foldFilled};
-use coding::encode::encode;
+use coding::encode::encode_by_rows;
 use plan::Kind;
 use plan::counts::bytes_read;
 use plan::fold_refusal;
@@ -48,19 +48,29 @@ pub fn fold(s: Shape, stripes: usize, f: usize, read: &[u8], parity: &mut [u8]) 
     0
 }
 
-// The parity columns of the wide stripe. Kind C reads all the data, so it is the encoding of the wide stripe. Else the stripes are by
-// points where they have more than MOST_ROWS parity columns.
+// The parity columns of the wide stripe. Kind C reads all the data, so it is the encoding of the wide stripe. The stripes are by points
+// where they have more than MOST_ROWS parity columns. What takes much stack is called from two arms each: so it has a frame of its own,
+// and no way pays for the others.
 fn fill(s: Shape, stripes: usize, f: usize, read: &[u8], parity: &mut [u8])
     requires { ⌜ (foldRefusal s stripes f ≡ 0) × ((length (now read) ≡ bytesRead s stripes f) × (length (now parity) ≡ f * s .l)) ⌝ }
     ensures { λ _. ⌜ now (parity .exit) ≡ foldOf s stripes f (now (read .entry)) ⌝ }
 {
-    if let Kind::C = kind_of(s, f) {
-        encode(wide_shape(s, stripes, f), read, parity);
-        return;
+    let kind = kind_of(s, f);
+    match kind {
+        Kind::A => {
+            if MOST_ROWS < s.r {
+                by_points::fill_by_points(s, stripes, read, parity);
+                return;
+            }
+            stripes::fill_parity(s, stripes, f, read, parity);
+        }
+        Kind::B => stripes::fill_parity(s, stripes, f, read, parity),
+        Kind::C => {
+            if MOST_ROWS < s.r {
+                by_points::fill_by_points(s, stripes, read, parity);
+                return;
+            }
+            encode_by_rows(wide_shape(s, stripes, f), read, parity);
+        }
     }
-    if MOST_ROWS < s.r {
-        by_points::fill_by_points(s, stripes, read, parity);
-        return;
-    }
-    stripes::fill_parity(s, stripes, f, read, parity);
 }

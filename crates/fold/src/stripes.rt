@@ -8,7 +8,7 @@ ghost use Rattle.plan.specs.Plan.{foldRefusal, kindOf, bytesEach, bytesRead};
 ghost use Rattle.fold.specs.Fold.{partBytes, foldOf};
 ghost use Rattle.fold.specs.Shares.{ReadsParity, IsRows, taken};
 use crate::runs::take_runs;
-use coding::encode::encode;
+use coding::encode::encode_by_rows;
 use stripe::Shape;
 
 // The bytes read of a data column, where a fold reads parity.
@@ -35,7 +35,7 @@ fn fill_rows(s: Shape, f: usize, d: &[u8], rows: &mut [u8])
         return;
     }
     let end = k * m;
-    encode(Shape::new(k, f, 0, m), &d[..end], rows);
+    encode_by_rows(Shape::new(k, f, 0, m), &d[..end], rows);
 }
 
 // The wide parity once a stripe is taken in, from the bytes read of it.

@@ -1,5 +1,5 @@
 // The list of lost positions as a caller lends it, pairs of bytes, low byte first: judged whole, and read into one small record.
-use stripe::MOST_ROWS;
+use stripe::MOST_PARITY;
 ghost use mathlib.Core.Path.{_≡_};
 ghost use Prim.Native.Nat.{_+_, _*_, _<_};
 ghost use Rattle.stripe.specs.Stripe.{ascending};
@@ -7,7 +7,7 @@ ghost use Rattle.lost.specs.Positions.{positions, listRefusal};
 ghost use Rattle.lost.specs.Lost.{lostOf};
 
 // The most lost positions that a record holds.
-pub const CAPACITY: usize = MOST_ROWS;
+pub const CAPACITY: usize = MOST_PARITY;
 
 // Up to CAPACITY lost positions, ascending, and their number; zero stands after the last.
 pub struct Lost {

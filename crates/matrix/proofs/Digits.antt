@@ -163,7 +163,7 @@ row-before f row g n ds es w i h = w .off i (inl (omega arith))
 
 -- ---- the rows
 
-pub all-turn : (ms : List ℕ) (m i n s : ℕ) (ds es : List ℕ) → n ≤ 32 → AllNumbered ms m i n s ds
+pub all-turn : (ms : List ℕ) (m i n s : ℕ) (ds es : List ℕ) → n ≤ 28 → AllNumbered ms m i n s ds
     → RowMade (λ j. getD ms (s * m + i + j) 0) (s * 64) n ((n + 3) / 4) ds es → AllNumbered ms m i n (s + 1) es
 all-turn ms m i n s ds es few h w = record { at = λ r less. go r less (below-or-from r s) }
   where

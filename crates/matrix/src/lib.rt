@@ -1,6 +1,6 @@
 // A matrix of bytes times columns, by sums of groups. For a block of 64 places the 16 sums of each group of four columns are formed
 // once. A row is then Horner's rule over the eight bits of its constants: double, and add of each group the sum whose number is that
-// bit of the group's four constants. No product is ever formed. Columns are taken in slabs of 32, whose sums fit a local table.
+// bit of the group's four constants. No product is ever formed. Columns are taken in slabs of 28, whose sums fit a local table.
 // Throughout, t is that table, es holds the numbers of the sums, by row, group and bit, and cs holds the numbers of the columns used:
 // column c starts at from + c * stride. One row alone is formed in `one`.
 mod one;
@@ -75,7 +75,7 @@ fn in_group(n: usize, g: usize) -> usize
 
 // The first `have` sums of the group g with d added, after them.
 fn widen(t: &mut [u8], g: usize, have: usize, d: &[u8; 64])
-    requires { ⌜ (length (now t) ≡ 8192) × ((g < 8) × (have ≤ 8)) ⌝ }
+    requires { ⌜ (length (now t) ≡ 7168) × ((g < 7) × (have ≤ 8)) ⌝ }
     ensures { λ _. ⌜ Widened g have have (now (d .entry)) (now (t .entry)) (now (t .exit)) ⌝ }
 {
     let mut c = 0;
@@ -99,7 +99,7 @@ fn sums(
     stride: usize,
     w: usize,
 )
-    requires { ⌜ (length (now t) ≡ 8192) × ((g < 8) × ((n ≤ 4) × ((i + n ≤ length (now cs))
+    requires { ⌜ (length (now t) ≡ 7168) × ((g < 7) × ((n ≤ 4) × ((i + n ≤ length (now cs))
         × ((w ≤ 64) × Inside (now columns) (now cs) from stride w)))) ⌝ }
     ensures { λ _. ⌜ Summed (now (columns .entry)) (now (cs .entry)) from stride w i g n (now (t .entry)) (now (t .exit)) ⌝ }
 {
@@ -126,7 +126,7 @@ fn tables(
     stride: usize,
     w: usize,
 )
-    requires { ⌜ (length (now t) ≡ 8192) × ((n ≤ 32) × ((i + n ≤ length (now cs))
+    requires { ⌜ (length (now t) ≡ 7168) × ((n ≤ 28) × ((i + n ≤ length (now cs))
         × ((w ≤ 64) × Inside (now columns) (now cs) from stride w))) ⌝ }
     ensures { λ _. ⌜ Tabled (now (columns .entry)) (now (cs .entry)) from stride w i n (now (t .exit)) ⌝ }
 {
@@ -192,7 +192,7 @@ fn numbers(es: &mut [u8], at: usize, matrix: &[u8], from: usize, n: usize)
 
 // The numbers of a row of n weights from `from` on, group by group.
 fn row_numbers(es: &mut [u8], row: usize, matrix: &[u8], from: usize, n: usize)
-    requires { ⌜ (row + 64 ≤ length (now es)) × ((n ≤ 32) × (from + n ≤ length (now matrix))) ⌝ }
+    requires { ⌜ (row + 64 ≤ length (now es)) × ((n ≤ 28) × (from + n ≤ length (now matrix))) ⌝ }
     ensures { λ _. ⌜ RowMade (λ j. getD (now (matrix .entry)) (from + j) 0) row n ((n + 3) / 4) (now (es .entry)) (now (es .exit)) ⌝ }
 {
     let mut g = 0;
@@ -205,7 +205,7 @@ fn row_numbers(es: &mut [u8], row: usize, matrix: &[u8], from: usize, n: usize)
 
 // The numbers of the n columns from i on of every row.
 fn all_numbers(es: &mut [u8], rows: usize, matrix: &[u8], m: usize, i: usize, n: usize)
-    requires { ⌜ (length (now es) ≡ 1024) × ((rows ≤ 16) × ((n ≤ 32) × ((i + n ≤ m) × (length (now matrix) ≡ rows * m)))) ⌝ }
+    requires { ⌜ (length (now es) ≡ 1024) × ((rows ≤ 16) × ((n ≤ 28) × ((i + n ≤ m) × (length (now matrix) ≡ rows * m)))) ⌝ }
     ensures { λ _. ⌜ AllNumbered (now (matrix .entry)) m i n rows (now (es .exit)) ⌝ }
 {
     let mut s = 0;
@@ -219,7 +219,7 @@ fn all_numbers(es: &mut [u8], rows: usize, matrix: &[u8], m: usize, i: usize, n:
 
 // Twice y, and of each of n groups the sum whose number stands from `row` on, eight apart.
 fn bit_step(y: &mut [u8; 64], t: &[u8], es: &[u8], row: usize, n: usize)
-    requires { ⌜ (length (now t) ≡ 8192) × ((row + 56 < length (now es)) × ((1 ≤ n) × ((n ≤ 8) × Numbers (now es) row n))) ⌝ }
+    requires { ⌜ (length (now t) ≡ 7168) × ((row + 56 < length (now es)) × ((1 ≤ n) × ((n ≤ 7) × Numbers (now es) row n))) ⌝ }
     ensures { λ _. ⌜ ((q : ℕ) → q < 64
         → getD (now (y .exit)) q 0 ≡ 2 ⊗ getD (now (y .entry)) q 0 ⊕ picked (now (t .entry)) (now (es .entry)) row n q) ⌝ }
 {
@@ -245,7 +245,7 @@ pub(crate) fn wide(x: u8) -> usize
 // The row whose numbers stand from `row` on, of n groups. It starts as the sum of no column, read from the table: so the compiler
 // learns where the table stands, and reads it by aligned blocks.
 fn straight(t: &[u8], es: &[u8], row: usize, n: usize) -> [u8; 64]
-    requires { ⌜ (length (now t) ≡ 8192) × ((row + 64 ≤ length (now es)) × ((1 ≤ n) × ((n ≤ 8)
+    requires { ⌜ (length (now t) ≡ 7168) × ((row + 64 ≤ length (now es)) × ((1 ≤ n) × ((n ≤ 7)
         × (ZeroFirst (now t) × RowNumbers (now es) row n)))) ⌝ }
     ensures { λ v. ⌜ ((q : ℕ) → q < 64 → getD v q 0 ≡ rowValue (now (t .entry)) (now (es .entry)) row n q) ⌝ }
 {
@@ -292,7 +292,7 @@ fn rows_block(
     w: usize,
     out: &mut [u8],
 )
-    requires { ⌜ (length (now t) ≡ 8192) × ((length (now es) ≡ 1024) × ((rows ≤ 16) × ((1 ≤ groups) × ((groups ≤ 8) × ((w ≤ 64)
+    requires { ⌜ (length (now t) ≡ 7168) × ((length (now es) ≡ 1024) × ((rows ≤ 16) × ((1 ≤ groups) × ((groups ≤ 7) × ((w ≤ 64)
         × ((at + w ≤ count) × ((length (now out) ≡ rows * count) × (ZeroFirst (now t) × AllNumbers (now es) rows groups)))))))) ⌝ }
     ensures { λ _. ⌜ Rowed (now (t .entry)) (now (es .entry)) groups fresh count at w rows (now (out .entry)) (now (out .exit)) ⌝ }
 {
@@ -319,7 +319,7 @@ fn slab(
     count: usize,
     out: &mut [u8],
 )
-    requires { ⌜ (rows ≤ 16) × ((1 ≤ n) × ((n ≤ 32) × ((i + n ≤ length (now cs)) × ((length (now matrix) ≡ rows * length (now cs))
+    requires { ⌜ (rows ≤ 16) × ((1 ≤ n) × ((n ≤ 28) × ((i + n ≤ length (now cs)) × ((length (now matrix) ≡ rows * length (now cs))
         × (Inside (now columns) (now cs) from stride count × ((length (now out) ≡ rows * count)
         × Held (now matrix) (now cs) (now columns) from stride count rows i (now out))))))) ⌝ }
     ensures { λ _. ⌜ Held (now (matrix .entry)) (now (cs .entry)) (now (columns .entry)) from stride count rows (i + n)
@@ -327,7 +327,7 @@ fn slab(
 {
     let mut es = [0u8; 1024];
     all_numbers(&mut es, rows, matrix, cs.len(), i, n);
-    let mut t = [0u8; 8192];
+    let mut t = [0u8; 7168];
     let mut at = 0;
     while at < count {
         let w = shorter(64, count - at);
@@ -355,7 +355,7 @@ fn fill(
 {
     let mut i = 0;
     while i < cs.len() {
-        let n = shorter(32, cs.len() - i);
+        let n = shorter(28, cs.len() - i);
         slab(rows, cs, i, n, matrix, columns, from, stride, count, out);
         i += n;
     }

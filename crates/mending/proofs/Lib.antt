@@ -1,6 +1,7 @@
 pub mod Passed
 pub mod Outcome
 pub mod Filled
+pub mod Smaller
 pub mod Slots
 pub mod Among
 pub mod Posed
@@ -8,4 +9,5 @@ pub mod Runs
 pub mod Settled
 pub mod Added
 pub mod Restored
+pub mod Pointed
 pub mod Unique

@@ -24,10 +24,10 @@ use Rattle.stripe.proofs.Lost.{lostData, rowLost, lost-data-ascending, ascendin
 use Rattle.stripe.proofs.Errors.{points, points-length, points-bytes, points-weights, points-apart}
 use Rattle.stripe.proofs.Errors.{errorRow, error-moment, errors, errors-length, errors-bytes, syndrome}
 use Rattle.stripe.proofs.Word.{wordErrors, word-spread}
-use Rattle.lost.specs.declared.Lost.{Lost}
+use Rattle.mending.specs.declared.few.Few.{Few}
 use Rattle.mending.specs.declared.system.System.{System}
-use Rattle.lost.specs.Lost.{lostList, capacity}
-use Rattle.mending.specs.Restore.{Ready, ReadyRows}
+use Rattle.mending.specs.Few.{fewList}
+use Rattle.mending.specs.Restore.{ReadyRows}
 use Rattle.mending.specs.Slots.{weighted}
 use Rattle.mending.specs.System.{less, lostIn, gone, PivotOf, Posed}
 
@@ -248,7 +248,7 @@ less-at x (i ∷ is) (suc v) h = less-at x is v (omega arith)
 pub small-product : (i x j : ℕ) → i < 256 → j < mostRows → (i - x) * j ≤ 256 * mostRows
 small-product i x j h k = mul-le-mul {n₂ = 256} {m₂ = mostRows} (omega arith) (omega arith)
 
-pub weights-done : (at ws : List ℕ) (e x j v : ℕ) → e ≤ v → e ≤ mostRows → length at ≡ capacity → length ws ≡ mostRows
+pub weights-done : (at ws : List ℕ) (e x j v : ℕ) → e ≤ v → e ≤ mostRows → length at ≡ mostRows → length ws ≡ mostRows
     → ((u : ℕ) → u < v → getD ws u 0 ≡ gpow ((getD at u 0 - x) * j)) → take e ws ≡ points j (less x (take e at))
 weights-done at ws e x j v he few room long h =
     ext-getD 0 _ _ (cut ∙ sym (points-length j (less x (take e at)) ∙ less-length x (take e at) ∙ many)) (λ u l. each u (subst (λ (z : ℕ). u < z) cut l))
@@ -268,17 +268,17 @@ weights-done at ws e x j v he few room long h =
         ∙ sym (points-at j (less x (take e at)) u (omega (arith, many, less-length x (take e at))))
 
 -- the system from its parts
-pub posed : (s : Shape) (w : Lost) (e x a d : ℕ) → ReadyRows s w → e ≤ w .count → take e (w .at) ≡ lostData (s .k) (lostList w)
+pub posed : (s : Shape) (w : Few) (e x a d : ℕ) → ReadyRows s w → e ≤ w .count → take e (w .at) ≡ lostData (s .k) (fewList w)
     → PivotOf (s .t) e (w .count) (getD (w .at) 0 0) x
-    → a ≡ firstRow (rowLost (s .k) (lostList w)) → d ≡ rowStep (rowLost (s .k) (lostList w))
+    → a ≡ firstRow (rowLost (s .k) (fewList w)) → d ≡ rowStep (rowLost (s .k) (fewList w))
     → Posed s record { lost = w; count = e; pivot = x; first = a; step = d }
 posed s w e x a d ready he front from ea ed =
     record {
       rows = ready .rows;
-      room = r .room;
-      few = omega (arith, r .few, rows-most s f (ready .rows));
-      ascend = r .ascend;
-      fits = omega (arith, r .few, long);
+      room = ready .room;
+      few = omega (arith, ready .few, rows-most s f (ready .rows));
+      ascend = ready .ascend;
+      fits = omega (arith, ready .few, long);
       many = he;
       front = front;
       first-is = ea;
@@ -289,26 +289,23 @@ posed s w e x a d ready he front from ea ed =
       pivot-apart = apart from;
     }
   where
-    r : Ready s w
-    r = ready .ready
-
     f : Allowed s
-    f = allowed s (r .shape)
+    f = allowed s (ready .shape)
 
-    long : length (lostList w) ≡ w .count
-    long = length-take-le (w .count) (w .at) (omega (arith, r .room, r .few, rows-most s f (ready .rows)))
+    long : length (fewList w) ≡ w .count
+    long = length-take-le (w .count) (w .at) (omega (arith, ready .room, ready .few, rows-most s f (ready .rows)))
 
-    at : (v : ℕ) → v < w .count → getD (lostList w) v 0 ≡ getD (w .at) v 0
+    at : (v : ℕ) → v < w .count → getD (fewList w) v 0 ≡ getD (w .at) v 0
     at v h = getD-take (w .count) (w .at) v 0 h
 
     -- where e are all that are lost they are data columns
-    data-only : e ≡ w .count → (v : ℕ) → v < w .count → getD (lostList w) v 0 < s .k
+    data-only : e ≡ w .count → (v : ℕ) → v < w .count → getD (fewList w) v 0 < s .k
     data-only q v h =
         subst (λ (l : List ℕ). getD l v 0 < s .k) (sym all)
-        (ascending-at v 0 (s .k) (lostData (s .k) (lostList w)) (lost-data-ascending (s .k) 0 (columns s) (lostList w) (r .ascend))
+        (ascending-at v 0 (s .k) (lostData (s .k) (fewList w)) (lost-data-ascending (s .k) 0 (columns s) (fewList w) (ready .ascend))
         (omega (arith, long, ap length all)) .1)
       where
-        all : lostList w ≡ lostData (s .k) (lostList w)
+        all : fewList w ≡ lostData (s .k) (fewList w)
         all = ap (λ (n : ℕ). take n (w .at)) (sym q) ∙ front
 
     below : (v : ℕ) → v < e → PivotOf (s .t) e (w .count) (getD (w .at) 0 0) x → x ≤ getD (w .at) v 0
@@ -320,17 +317,17 @@ posed s w e x a d ready he front from ea ed =
           q .1 .1 .1,
           at 0 (omega arith),
           at (suc v) (omega arith),
-          ascending-apart 0 (suc v) 0 (columns s) (lostList w) (r .ascend) (omega arith) (omega (arith, long)),
+          ascending-apart 0 (suc v) 0 (columns s) (fewList w) (ready .ascend) (omega arith) (omega (arith, long)),
         )
 
     plain : plainRuns s < runs s → PivotOf (s .t) e (w .count) (getD (w .at) 0 0) x → x ≡ 0
     plain h (inl z) = z
     plain h (inr q) = absurd (omega (arith, plain-runs s (q .0), f .parity-some))
 
-    whole : (j : ℕ) → among (s .k + j) (lostList w) ≡ true → PivotOf (s .t) e (w .count) (getD (w .at) 0 0) x → x ≡ 0
+    whole : (j : ℕ) → among (s .k + j) (fewList w) ≡ true → PivotOf (s .t) e (w .count) (getD (w .at) 0 0) x → x ≡ 0
     whole j m (inl z) = z
     whole j m (inr q) =
-        let i = among-index (s .k + j) (lostList w) m in absurd (omega (arith, i .1 .1, data-only (q .1 .1 .0) (i .0) (omega (arith, i .1 .0, long))))
+        let i = among-index (s .k + j) (fewList w) m in absurd (omega (arith, i .1 .1, data-only (q .1 .1 .0) (i .0) (omega (arith, i .1 .0, long))))
 
     apart : PivotOf (s .t) e (w .count) (getD (w .at) 0 0) x → (x ≡ 0) ⊎ ((s .t ≡ 0) × (x < s .k))
     apart (inl z) = inl z
@@ -338,7 +335,7 @@ posed s w e x a d ready he front from ea ed =
 
 -- what the weights are asked for
 pub weights-asked : (s : Shape) (p : System) (x j : ℕ) → Allowed s → Posed s p → x ≤ p .pivot → j < mostRows
-    → (length (p .lost .at) ≡ capacity) × ((p .count ≤ mostRows) × ((j < mostRows)
+    → (length (p .lost .at) ≡ mostRows) × ((p .count ≤ mostRows) × ((j < mostRows)
     × ((v : ℕ) → v < p .count → (x ≤ getD (p .lost .at) v 0) × (getD (p .lost .at) v 0 < 256))))
 weights-asked s p x j f w hx hj =
     (w .room, (omega (arith, w .many, w .few), (hj, λ v h. (omega (arith, w .pivot-below v h), omega (arith, position-below s f p w v h, f .data-most)))))

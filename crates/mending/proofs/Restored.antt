@@ -16,7 +16,7 @@ use Rattle.field.proofs.Bytes.{tabulate-length}
 use Rattle.stripe.specs.declared.Shape.{Shape}
 use Rattle.stripe.specs.Shape.{shapeRefusal, columns, dataLength, stripeLength}
 use Rattle.stripe.specs.Stripe.{runLength, parityByte, dataOf, among, Ascending, plainRuns}
-use Rattle.stripe.proofs.Allowed.{Allowed, all-by-rows, allowed, rows-most}
+use Rattle.stripe.proofs.Allowed.{Allowed, allowed}
 use Rattle.stripe.proofs.Places.{place-lt, by-places, across-first, data-of-length}
 use Rattle.stripe.proofs.Codewords.{checks-codeword}
 use Rattle.stripe.proofs.Mended.{checkAt, wanted, wordAt, wanted-below, wanted-from, dataMended, data-mended-length}
@@ -105,7 +105,7 @@ module _ (s : Shape) (ls xs : List ℕ) (z : mendRefusal s (length xs) ls ≡ 0)
   pass = passed s (length xs) ls z
 
   pub list-same : lostList (lostOf ls) ≡ positions ls
-  list-same = listed-positions ls (omega (arith, pass .few, rows-most s (allowed s (pass .shape)) (all-by-rows s (pass .shape))))
+  list-same = listed-positions ls (omega (arith, pass .few, allowed s (pass .shape) .parity-most))
 
   pub ready : Ready s (lostOf ls)
   ready =

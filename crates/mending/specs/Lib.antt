@@ -1,4 +1,5 @@
 pub mod Mend
+pub mod Few
 pub mod Slots
 pub mod Restore
 pub mod System

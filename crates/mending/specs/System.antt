@@ -11,7 +11,7 @@ use Rattle.stripe.specs.Stripe.{byPoints, runs, among, Ascending, plainRuns}
 use Rattle.stripe.proofs.Survivors.{firstRow, rowStep}
 use Rattle.stripe.proofs.Lost.{lostData, rowLost}
 use Rattle.mending.specs.declared.system.System.{System}
-use Rattle.lost.specs.Lost.{lostList, capacity}
+use Rattle.mending.specs.Few.{fewList}
 
 -- positions counted from x on
 unfoldable pub less : ℕ → List ℕ → List ℕ
@@ -20,7 +20,7 @@ less x (i ∷ is) = (i - x) ∷ less x is
 
 -- the lost positions, and the lost data columns
 abbrev pub lostIn : System → List ℕ
-lostIn p = lostList (p .lost)
+lostIn p = fewList (p .lost)
 
 abbrev pub gone : Shape → System → List ℕ
 gone s p = lostData (s .k) (lostIn p)
@@ -28,7 +28,7 @@ gone s p = lostData (s .k) (lostIn p)
 -- there is room for the lost data columns, whose positions are counted from x on in row j
 abbrev pub Counted : System → ℕ → ℕ → Type 0
 Counted p x j =
-    (length (p .lost .at) ≡ capacity)
+    (length (p .lost .at) ≡ mostRows)
     × ((p .count ≤ mostRows)
     × ((j < mostRows) × ((v : ℕ) → v < p .count → (x ≤ getD (p .lost .at) v 0) × (getD (p .lost .at) v 0 < 256))))
 
@@ -47,7 +47,7 @@ PivotOf t e n i x = (x ≡ 0) ⊎ ((t ≡ 0) × ((0 < e) × ((e ≡ n) × (x ≡
 -- are counted from 0 on unless the stripe is plain and no row is lost
 pub record Posed (s : Shape) (p : System) : Type 0 where
   pub rows : byPoints s ≡ false
-  pub room : length (p .lost .at) ≡ capacity
+  pub room : length (p .lost .at) ≡ mostRows
   pub few : p .lost .count ≤ mostRows
   pub ascend : Ascending 0 (columns s) (lostIn p)
   pub fits : length (lostIn p) ≤ s .r

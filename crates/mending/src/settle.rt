@@ -10,8 +10,8 @@ ghost use Prim.Native.Nat.{ℕ, _+_, _*_, _≤_, _<_};
 ghost use lib.ListN.{length, getD};
 ghost use Rattle.stripe.specs.Stripe.{among};
 ghost use Rattle.stripe.specs.Shape.{mostData, mostRows};
-ghost use Rattle.lost.specs.Lost.{lostList, capacity};
 ghost use Rattle.syndromes.specs.Syndromes.{Says};
+ghost use Rattle.mending.specs.Few.{fewList};
 ghost use Rattle.mending.specs.System.{Solver};
 ghost use Rattle.mending.specs.Scratch.{Buffers, Settles, RowSettles};
 
@@ -61,9 +61,9 @@ fn solves(p: System, j: usize) -> bool
 
 // Whether row j is lost or zero.
 fn clean(s: Shape, p: System, j: usize, slots: &[u8]) -> bool
-    requires { ⌜ (p .lost .count ≤ capacity) × ((s .k ≤ mostData) × ((j < mostRows) × (j * s .l + s .l ≤ length (now slots)))) ⌝ }
+    requires { ⌜ (p .lost .count ≤ mostRows) × ((s .k ≤ mostData) × ((j < mostRows) × (j * s .l + s .l ≤ length (now slots)))) ⌝ }
     ensures { λ v. ⌜ Says v
-        (among (s .k + j) (lostList (p .lost)) ≡ false → (y : ℕ) → y < s .l → getD (now (slots .entry)) (j * s .l + y) 0 ≡ 0) ⌝ }
+        (among (s .k + j) (fewList (p .lost)) ≡ false → (y : ℕ) → y < s .l → getD (now (slots .entry)) (j * s .l + y) 0 ≡ 0) ⌝ }
 {
     let l = s.l;
     if is_lost(p.lost, s.k + j) {

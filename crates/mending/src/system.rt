@@ -1,10 +1,10 @@
 // What is solved, once for all places: which lost columns are unknown, which rows are the equations, and the powers of g that belong
 // to them.
+use crate::few::Few;
 use crate::survivors::data_lost;
 use crate::survivors::first_row;
 use crate::survivors::row_step;
 use field::Gf;
-use lost::Lost;
 use stripe::MOST_ROWS;
 use stripe::Shape;
 ghost use mathlib.Core.Path.{_≡_};
@@ -18,7 +18,7 @@ ghost use Rattle.stripe.specs.Shape.{mostRows};
 
 // The first `count` lost positions are data columns, counted from `pivot` on; rows first, first + step, .. are solved by.
 pub struct System {
-    pub lost: Lost,
+    pub lost: Few,
     pub count: usize,
     pub pivot: usize,
     pub first: usize,
@@ -26,7 +26,7 @@ pub struct System {
 }
 
 // The system for a stripe of which a record's columns are lost.
-pub(crate) fn system_of(s: Shape, lost: Lost) -> System
+pub(crate) fn system_of(s: Shape, lost: Few) -> System
     requires { ⌜ ReadyRows s lost ⌝ }
     ensures { λ p. ⌜ (p .lost ≡ lost) × Posed s p ⌝ }
 {

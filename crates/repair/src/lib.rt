@@ -11,6 +11,7 @@ use crate::choose::survive;
 use crate::judge::judge;
 use crate::windows::WINDOW;
 use crate::write::write;
+use constants::MOST_CONSTANTS;
 use constants::mending;
 ghost use mathlib.Core.Path.{_≡_};
 ghost use Prim.Native.Nat.{_+_, _*_, _≤_};
@@ -89,7 +90,7 @@ fn refusal(k: usize, r: usize, l: usize, lost: &[usize], d: usize) -> u32
 }
 
 // The stripe with its lost columns mended, and 0; or a refusal, and the stripe stays: 5, 6 or 7 for what is lent, 8 where no codeword
-// agrees with all survivors. The weights take not much more room than they need.
+// agrees with all survivors.
 pub fn repair(k: usize, r: usize, l: usize, lost: &[usize], stripe: &mut [u8]) -> u32
     ensures { λ v. ⌜ Repaired k r l (now (lost .entry)) (now (stripe .entry)) v (now (stripe .exit)) ⌝ }
 {
@@ -98,11 +99,7 @@ pub fn repair(k: usize, r: usize, l: usize, lost: &[usize], stripe: &mut [u8]) -
         return no;
     }
     let n = r * k;
-    if n <= 256 {
-        let mut w = [0u8; 256];
-        return repair_by(k, r, l, lost, &mut w[0..n], stripe);
-    }
-    let mut w = [0u8; 4080];
+    let mut w = [0u8; MOST_CONSTANTS];
     repair_by(k, r, l, lost, &mut w[0..n], stripe)
 }
 

@@ -195,7 +195,7 @@ module _ (s : Shape) (passed : shapeRefusal s ≡ 0) where
       (leb-true _ _ (and-left _ _ k-allowed))
       (leb-true _ _ (and-right (leb 1 (s .k)) _ k-allowed))
       (leb-true _ _ (and-left _ _ r-allowed))
-      (let h = leb-true (s .r) mostRows (and-right (leb 1 (s .r)) _ r-allowed) in omega arith)
+      (leb-true _ _ (and-right (leb 1 (s .r)) _ r-allowed))
       pointed
       marked
       (leb-true _ _ (and-left _ _ l-bounds))
@@ -248,7 +248,3 @@ prepared-by-rows s a h = go (byPoints s) refl
       where
         zero-not-pos : s .t ≡ 0 → ⊥
         zero-not-pos z = omega arith
-
--- no shape with r above 3 is allowed yet, so every allowed shape is by rows
-pub all-by-rows : (s : Shape) → shapeRefusal s ≡ 0 → byPoints s ≡ false
-all-by-rows s h = few-by-rows s (leb-true (s .r) mostRows (and-right (leb 1 (s .r)) _ (r-allowed s h)))

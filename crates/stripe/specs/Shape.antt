@@ -39,9 +39,9 @@ mostParityLength = mostParity * mostLength
 abbrev pub dataAllowed : ℕ → Bool
 dataAllowed k = leb 1 k && leb k mostData
 
--- r is 1 to 3
+-- r is 1 to 16
 abbrev pub parityAllowed : ℕ → Bool
-parityAllowed r = leb 1 r && leb r mostRows
+parityAllowed r = leb 1 r && leb r mostParity
 
 -- where r is above 3, k+r is at most 255
 abbrev pub pointsAllowed : ℕ → ℕ → Bool

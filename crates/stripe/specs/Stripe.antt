@@ -39,7 +39,7 @@ unfoldable pub piggyback : Shape → List ℕ → ℕ → ℕ → ℕ
 piggyback s ds i p =
     cond (ltb (p / runLength s) (plainRuns s)) 0 (rowAt s ds (p / runLength s) (i * runLength s + p % runLength s))
 
--- ---- r from 4 to 16: the code is given by check equations. No such r is allowed yet
+-- ---- r from 4 to 16: the code is given by check equations
 
 unfoldable pub byPoints : Shape → Bool
 byPoints s = ltb mostRows (s .r) && leb (s .r) mostParity

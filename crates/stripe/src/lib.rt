@@ -53,7 +53,7 @@ impl Shape {
         if r < 1 {
             return 1;
         }
-        if MOST_ROWS < r {
+        if MOST_PARITY < r {
             return 1;
         }
         if !points_allowed(k, r) {

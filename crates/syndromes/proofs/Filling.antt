@@ -26,8 +26,8 @@ use Rattle.stripe.specs.Stripe.{byPoints, parityByte, parity, dataOf, parityOf}
 use Rattle.stripe.proofs.Allowed.{allowed, rows-most}
 use Rattle.stripe.proofs.Lent.{lent-both}
 use Rattle.stripe.proofs.Places.{place-lt, parity-at, parity-length, plain-parity, row-at-stripe, parity-of-at, parity-of-length, data-of-length}
-use Rattle.coding.specs.Encode.{encoded}
-use Rattle.coding.proofs.Encoded.{encoded-done}
+use Rattle.coding.specs.Encode.{encodedByRows}
+use Rattle.coding.proofs.Encoded.{encoded-done, encoded-by-rows}
 use Rattle.syndromes.specs.Apart.{Apart, Parted}
 use Rattle.syndromes.specs.Syndromes.{Lent, Syndromes, InBlocks, Divided}
 
@@ -78,13 +78,14 @@ weight-one j z h =
     let none : j * 0 ≡ 0 = omega arith in
     ap (λ (w : ℕ). w ⊗ z) (ap gpow none ∙ gpow-zero) ∙ one-mul z h
 
-pub whole-lacks : (s : Shape) (xs os es ys : List ℕ) → Lent s 0 (length xs) (length os) → Bytes ys → es ≡ encoded s (dataOf s xs) os
+pub whole-lacks : (s : Shape) (xs os es ys : List ℕ) → Lent s 0 (length xs) (length os) → Bytes ys → es ≡ encodedByRows s (dataOf s xs) os
     → ys ≡ onto (λ (x y : ℕ). x ⊕ y) es (parityOf s xs) → Syndromes s 0 xs ys
 whole-lacks s xs os es ys h b ee ey = record { bytes = b; long = ap length ey ∙ onto-length _ es (parityOf s xs) ∙ long; at = at }
   where
     is : es ≡ parity s (dataOf s xs)
     is =
-        ee ∙ sym (encoded-done s (dataOf s xs) os (lent-both s (length (dataOf s xs)) (length os) (h .shape) (data-of-length s xs (h .long)) (h .room)))
+        ee ∙ encoded-by-rows s (dataOf s xs) os (rows-most s (allowed s (h .shape)) (h .rows))
+        ∙ sym (encoded-done s (dataOf s xs) os (lent-both s (length (dataOf s xs)) (length os) (h .shape) (data-of-length s xs (h .long)) (h .room)))
 
     long : length es ≡ parityLength s
     long = ap length is ∙ parity-length s (dataOf s xs)

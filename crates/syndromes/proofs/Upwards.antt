@@ -29,8 +29,8 @@ use Rattle.stripe.specs.Column.{lentRefusal}
 use Rattle.stripe.proofs.Allowed.{allowed, few-by-rows}
 use Rattle.stripe.proofs.Lent.{lent-both}
 use Rattle.stripe.proofs.Places.{across-length, across-take, parity-at, parity-length, plain-parity}
-use Rattle.coding.specs.Encode.{encoded}
-use Rattle.coding.proofs.Encoded.{encoded-done}
+use Rattle.coding.specs.Encode.{encodedByRows}
+use Rattle.coding.proofs.Encoded.{encoded-done, encoded-by-rows}
 use Rattle.syndromes.specs.Apart.{Apart, Parted, Places, BelowIn, Plus, RowTo, RowsTo}
 
 -- ---- columns in two parts
@@ -322,7 +322,7 @@ module _ (s : Shape) (xs os ps : List ℕ) (k l r x : ℕ) (h : Parted xs k l r 
   refused =
       lent-both s (length upper) (length os) passed (upper-long ∙ upper-width ∙ sym (ap₂ _*_ ek el)) (h .room ∙ sym (ap₂ _*_ er el))
 
-  pub encoded-upper : ps ≡ encoded s upper os → RowsTo xs k l r x 0 0 ps
+  pub encoded-upper : ps ≡ encodedByRows s upper os → RowsTo xs k l r x 0 0 ps
   unfolding rowAt
   encoded-upper is =
       record {
@@ -332,7 +332,7 @@ module _ (s : Shape) (xs os ps : List ℕ) (k l r x : ℕ) (h : Parted xs k l r 
       }
     where
       exact : ps ≡ parity s upper
-      exact = is ∙ sym (encoded-done s upper os refused)
+      exact = is ∙ encoded-by-rows s upper os few ∙ sym (encoded-done s upper os refused)
 
       each : (j : ℕ) → j < r → RowTo xs k l x 0 j ps
       each j less =

@@ -4,7 +4,7 @@
 // literal length 64: so the compiler keeps it in registers. The first block of a column adds only as many places as leave whole blocks.
 use crate::downwards::halve_add;
 use crate::downwards::quarter_add;
-use coding::encode::encode;
+use coding::encode::encode_by_rows;
 use lanes::add;
 use lanes::copy;
 use stripe::Shape;
@@ -21,7 +21,7 @@ pub(crate) fn fill_apart(stripe: &[u8], k: usize, l: usize, r: usize, x: usize, 
     let s = Shape::new(k - x, r, 0, l);
     let from = x * l;
     let to = k * l;
-    encode(s, &stripe[from..to], out);
+    encode_by_rows(s, &stripe[from..to], out);
     add_below(stripe, k, l, r, x, out);
 }
 

@@ -4,7 +4,7 @@ mod apart;
 mod downwards;
 
 use crate::apart::fill_apart;
-use coding::encode::encode;
+use coding::encode::encode_by_rows;
 use field::Gf;
 use lanes::add;
 use products::scale_all;
@@ -85,7 +85,7 @@ fn fill_whole(s: Shape, x: usize, stripe: &[u8], out: &mut [u8])
     let k = s.k;
     let l = s.l;
     let d = k * l;
-    encode(s, &stripe[..d], out);
+    encode_by_rows(s, &stripe[..d], out);
     add(out, &stripe[d..]);
     divide(s, x, out);
 }

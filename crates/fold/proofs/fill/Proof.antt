@@ -1,29 +1,26 @@
--- `fill` meets its contract: kind C is the encoding of the wide stripe; of kinds A and B stripes by points go at once, those by rows one by one.
+-- `fill` meets its contract: stripes by points go at once; by rows kind C is the encoding of the wide stripe, and of kinds A and B the stripes go one by one.
 use mathlib.Core.Path.{_≡_, sym, ap, _∙_}
-use mathlib.Core.Logic.{_⊎_, inl, inr}
 use Prim.Native.Nat.{ℕ}
 use native.Mathlib.Omega.{arith}
-use denote.Enum.Declared.{tagOf, declared}
 use denote.Ref.{now}
 use Rattle.stripe.specs.declared.Shape.{Shape}
-use Rattle.coding.specs.Encode.{encoded}
-use Rattle.plan.specs.declared.Kind.{Kind}
-use Rattle.plan.specs.declared.Kind.the-variants.{C}
-use Rattle.plan.proofs.Kind as K
+use Rattle.coding.specs.Encode.{encodedByRows}
+use Rattle.plan.specs.declared.Kind.the-variants.{A, B, C}
 use Rattle.stripe.proofs.Allowed.{few-by-rows}
 use Rattle.plan.proofs.Refusals.{a-shape}
 use Rattle.fold.specs.Fold.{foldOf}
-use Rattle.fold.proofs.Filling.{reads-parity}
+use Rattle.fold.proofs.Filling.{reads-parity, marked-by-rows}
 use Rattle.fold.proofs.Encoded.{encoded-fold}
 use Rattle.fold.proofs.ByPoints.{points-new, reads-columns}
 use borrow.Author.Needs.{needs}
 use Rattle.fold.proofs.fill.Statement.{statement}
 use Rattle.fold.proofs.fill.Tie as tie
 
--- a kind with another number than that of C
-other : {κ : Kind} → (tagOf (declared K.enum) κ ≡ 0) ⊎ (tagOf (declared K.enum) κ ≡ 1) → κ ≡ C → ⊥
-other (inl h) e = let z : _≡_ {A = ℕ} 2 0 = sym (ap (tagOf (declared K.enum)) e) ∙ h in omega arith
-other (inr h) e = let z : _≡_ {A = ℕ} 2 1 = sym (ap (tagOf (declared K.enum)) e) ∙ h in omega arith
+a-not-c : A ≡ C → ⊥
+a-not-c e = let z : _≡_ {A = ℕ} 0 1 = cc in omega arith
+
+b-not-c : B ≡ C → ⊥
+b-not-c e = let z : _≡_ {A = ℕ} 0 1 = cc in omega arith
 
 kind-of-requires : tie.Need-kind-of-requires
 kind-of-requires c κs = search needs
@@ -31,49 +28,57 @@ kind-of-requires c κs = search needs
 enum-told : tie.Need-enum-told
 enum-told c = search needs
 
-wide-shape-requires : tie.Need-wide-shape-requires
-wide-shape-requires c κs = search needs
+enum-told-2 : tie.Need-enum-told-2
+enum-told-2 c = search needs
 
-encode-requires : tie.Need-encode-requires
-encode-requires c κs = search needs
+enum-told-3 : tie.Need-enum-told-3
+enum-told-3 c = search needs
+
+-- by points
+fill-by-points-requires : tie.Need-fill-by-points-requires
+fill-by-points-requires c κs =
+    let z = c .before .before .before .before .before .before .before .before in
+    reads-columns _ _ _ _ _ (z .pre .0) (c .before .if1 .taken) (z .pre .1 .0) (z .pre .1 .1)
 
 same-length : tie.Need-same-length
 same-length c = search needs
 
 returns : tie.Need-returns
 returns c =
-    let kind-of = c .before .before .before .before .before .before .before .kind-of in
-    let z = c .before .before .before .before .before .before .before .before .before .before in
-    c .before .before .encode .ensures .1
-    ∙ ap (λ (t : Shape). encoded t (now (z .args .read)) (now (z .args .parity)))
-    (c .before .before .before .before .wide-shape .ensures ∙ a-shape _ _ _ (z .pre .0))
-    ∙ encoded-fold _ _ _ (z .pre .0) _ (sym (kind-of .ensures) ∙ c .before .before .before .before .before .enum-told .given .1) (z .pre .1 .0) _ (z .pre .1 .1)
+    let z = c .before .before .before .before .before .before .before .before .before .before .before in
+    c .before .before .fill-by-points .ensures
+    ∙ ap (λ (g : ℕ). foldOf (z .args .s) (z .args .stripes) g (now (z .args .read)))
+    (sym (points-new _ _ _ (z .pre .0) (c .before .before .before .before .if1 .taken)))
 
--- by points
-fill-by-points-requires : tie.Need-fill-by-points-requires
-fill-by-points-requires c κs =
-    let keys = c .before .before .before in
-    let z = keys .before .before .before .before in
-    let kind-of = keys .before .kind-of in
-    reads-columns _ _ _ _ _ (z .pre .0) (c .before .if1 .taken) (λ e. other (keys .match .keys2) (kind-of .ensures ∙ e)) (z .pre .1 .0) (z .pre .1 .1)
+fill-by-points-requires-2 : tie.Need-fill-by-points-requires-2
+fill-by-points-requires-2 c κs =
+    let z = c .before .before .before .before .before .before .before .before in
+    reads-columns _ _ _ _ _ (z .pre .0) (c .before .if2 .taken) (z .pre .1 .0) (z .pre .1 .1)
 
 same-length-2 : tie.Need-same-length-2
 same-length-2 c = search needs
 
 returns-2 : tie.Need-returns-2
 returns-2 c =
-    let z = c .before .before .before .before .before .before .before .before .before .before in
-    c .before .before .fill-by-points .ensures
+    let z = c .before .before .before .before .before .before .before .before .before .before .before in
+    c .before .before .fill-by-points2 .ensures
     ∙ ap (λ (g : ℕ). foldOf (z .args .s) (z .args .stripes) g (now (z .args .read)))
-    (sym (points-new _ _ _ (z .pre .0) (c .before .before .before .before .if1 .taken)))
+    (sym (points-new _ _ _ (z .pre .0) (c .before .before .before .before .if2 .taken)))
 
--- by rows
+-- by rows, kinds A and B
 fill-parity-requires : tie.Need-fill-parity-requires
 fill-parity-requires c κs =
-    let keys = c .before .before .before in
-    let z = keys .before .before .before .before in
-    let rows = few-by-rows _ (c .before .if1 .left) in
-    (reads-parity _ _ _ (z .pre .0) rows (λ e. other (keys .match .keys2) (keys .before .kind-of .ensures ∙ e)), z .pre)
+    let told = c .before .before .before in
+    let z = told .before .before .before .before .before in
+    let is = sym (told .before .before .kind-of .ensures) ∙ told .enum-told .given .1 in
+    (reads-parity _ _ _ (z .pre .0) (few-by-rows _ (c .before .if1 .left)) (λ e. a-not-c (sym is ∙ e)), z .pre)
+
+fill-parity-requires-2 : tie.Need-fill-parity-requires-2
+fill-parity-requires-2 c κs =
+    let told = c .before in
+    let z = told .before .before .before .before .before in
+    let is = sym (told .before .before .kind-of .ensures) ∙ told .enum-told2 .given .1 in
+    (reads-parity _ _ _ (z .pre .0) (marked-by-rows _ _ _ (z .pre .0) is) (λ e. b-not-c (sym is ∙ e)), z .pre)
 
 same-length-3 : tie.Need-same-length-3
 same-length-3 c = search needs
@@ -81,19 +86,53 @@ same-length-3 c = search needs
 returns-3 : tie.Need-returns-3
 returns-3 c = search needs
 
+same-length-4 : tie.Need-same-length-4
+same-length-4 c = search needs
+
+returns-4 : tie.Need-returns-4
+returns-4 c = search needs
+
+-- by rows, kind C
+wide-shape-requires : tie.Need-wide-shape-requires
+wide-shape-requires c κs = search needs
+
+encode-by-rows-requires : tie.Need-encode-by-rows-requires
+encode-by-rows-requires c κs = search needs
+
+same-length-5 : tie.Need-same-length-5
+same-length-5 c = search needs
+
+returns-5 : tie.Need-returns-5
+returns-5 c =
+    let wide = c .before .before .before .before in
+    let told = wide .before .before .before in
+    let z = told .before .before .before .before .before in
+    let is = sym (told .before .before .kind-of .ensures) ∙ told .enum-told3 .given .1 in
+    c .before .before .encode-by-rows .ensures
+    ∙ ap (λ (t : Shape). encodedByRows t (now (z .args .read)) (now (z .args .parity))) (wide .wide-shape .ensures ∙ a-shape _ _ _ (z .pre .0))
+    ∙ encoded-fold _ _ _ (z .pre .0) _ is (z .pre .1 .0) (few-by-rows _ (wide .before .if2 .left)) _ (z .pre .1 .1)
+
 pub fill-spec : {M : Type 1} → statement M
 fill-spec =
     tie.close
     (tie.spec
     kind-of-requires
     enum-told
-    wide-shape-requires
-    encode-requires
+    fill-by-points-requires
     same-length
     returns
-    fill-by-points-requires
+    fill-parity-requires
+    enum-told-2
+    fill-parity-requires-2
+    enum-told-3
+    fill-by-points-requires-2
     same-length-2
     returns-2
-    fill-parity-requires
+    wide-shape-requires
+    encode-by-rows-requires
     same-length-3
-    returns-3)
+    returns-3
+    same-length-4
+    returns-4
+    same-length-5
+    returns-5)

@@ -30,7 +30,7 @@ slab-requires c κs =
     let s = c .before .before .before .before .before .before .before .before in
     let at = c .before .before .before .loop in
     let n = c .before .shorter .ensures in
-    let some = least-some 32 _ _ (omega arith) (omega arith) (n .1 .1) in
+    let some = least-some 28 _ _ (omega arith) (omega arith) (n .1 .1) in
     (s .pre .0, (some, (n .0, (omega (arith, n .1 .0), (s .pre .1 .0, (s .pre .1 .1 .0, (at .inv .1, at .inv .2)))))))
 
 add-i : tie.Need-add-i Inv-loop μ-loop
@@ -39,7 +39,7 @@ add-i c = search needs
 loop-less : tie.Need-loop-less Inv-loop μ-loop
 loop-less c =
     let n = c .before .before .before .before in
-    omega (arith, least-some 32 _ _ (omega arith) (omega arith) (n .shorter .ensures .1 .1), n .before .loop-test .taken)
+    omega (arith, least-some 28 _ _ (omega arith) (omega arith) (n .shorter .ensures .1 .1), n .before .loop-test .taken)
 
 loop-again : tie.Need-loop-again Inv-loop μ-loop
 loop-again c = search needs

@@ -12,7 +12,7 @@ use Rattle.matrix.proofs.slab.Tie as tie
 
 abbrev Inv-loop : tie.InvT-loop
 Inv-loop rows cs i n matrix columns from stride count out₀ es t₀ at₀ out t at =
-    (at ≤ count) × (length out ≡ rows * count) × (length t ≡ 8192) × AllNumbered matrix (length cs) i n rows es
+    (at ≤ count) × (length out ≡ rows * count) × (length t ≡ 7168) × AllNumbered matrix (length cs) i n rows es
     × Edge matrix cs columns from stride count rows (i + n) i at out
 
 abbrev μ-loop : tie.MeasureT-loop

@@ -13,7 +13,7 @@ use Rattle.matrix.proofs.tables.Tie as tie
 
 abbrev Inv-loop : tie.InvT-loop
 Inv-loop t₀ cs i n columns from stride w g₀ t g =
-    (g ≤ (n + 3) / 4) × (length t ≡ 8192) × GroupsIn columns cs from stride w i n g t × (0 < g → ZeroFirst t)
+    (g ≤ (n + 3) / 4) × (length t ≡ 7168) × GroupsIn columns cs from stride w i n g t × (0 < g → ZeroFirst t)
 
 abbrev μ-loop : tie.MeasureT-loop
 μ-loop t₀ cs i n columns from stride w g₀ t g = (n + 3) / 4 - g

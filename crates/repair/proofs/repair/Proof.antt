@@ -1,21 +1,21 @@
 -- `repair` meets its contract: refused, or mended with room for the weights.
 use Prim.Native.Nat.{_*_, _≤_}
 use mathlib.Core.Path.{refl, sym, _∙_}
-use native.Mathlib.Nat.{mul-le-mul}
 use native.Mathlib.Omega.{arith}
 use lib.ListN.{length}
 use borrow.Author.Needs.{needs}
+use Rattle.constants.specs.Constants.{mostConstants}
+use Rattle.constants.proofs.Made.{few-constants}
 use Rattle.repair.proofs.Refused.{lawful}
 use Rattle.repair.proofs.repair.Statement.{statement}
 use Rattle.repair.proofs.repair.Tie as tie
 
 -- there is room for the weights
-few : (c : tie.Else1) → let a = c .before .before .before .before .args in a .r * a .k ≤ 4080
+few : (c : tie.Else1) → let a = c .before .before .before .before .args in a .r * a .k ≤ mostConstants
 few c =
     let a = c .before .before .before .before .args in
     let w = lawful (a .k) (a .r) (a .l) (a .lost .now) (length (a .stripe .now)) (sym (c .before .refusal .ensures) ∙ c .if1 .left) in
-    let most : a .k ≤ 255 = omega (arith, w .numbers .points-most) in
-    mul-le-mul (w .numbers .parity-most) most
+    few-constants (a .r) (a .k) (w .numbers .parity-most) (w .numbers .points-most)
 
 refusal-requires : tie.Need-refusal-requires
 refusal-requires c κs = search needs
@@ -35,7 +35,7 @@ part-w-start : tie.Need-part-w-start
 part-w-start c = search needs
 
 part-w-end : tie.Need-part-w-end
-part-w-end c = search needs
+part-w-end c = omega (arith, few c)
 
 repair-by-requires : tie.Need-repair-by-requires
 repair-by-requires c κs = search needs
@@ -45,24 +45,6 @@ same-length c = search needs
 
 returns-2 : tie.Need-returns-2
 returns-2 c = search needs
-
-sub-repair-by-2 : tie.Need-sub-repair-by-2
-sub-repair-by-2 c = search needs
-
-part-w-start-2 : tie.Need-part-w-start-2
-part-w-start-2 c = search needs
-
-part-w-end-2 : tie.Need-part-w-end-2
-part-w-end-2 c = omega (arith, few (c .before))
-
-repair-by-requires-2 : tie.Need-repair-by-requires-2
-repair-by-requires-2 c κs = search needs
-
-same-length-2 : tie.Need-same-length-2
-same-length-2 c = search needs
-
-returns-3 : tie.Need-returns-3
-returns-3 c = search needs
 
 pub repair-spec : {M : Type 1} → statement M
 repair-spec =
@@ -76,10 +58,4 @@ repair-spec =
     part-w-end
     repair-by-requires
     same-length
-    returns-2
-    sub-repair-by-2
-    part-w-start-2
-    part-w-end-2
-    repair-by-requires-2
-    same-length-2
-    returns-3)
+    returns-2)

@@ -10,13 +10,13 @@ use Rattle.syndromes.proofs.fill_whole.Tie as tie
 mul-d : tie.Need-mul-d
 mul-d c = search needs
 
-slice-aggregate-encode : tie.Need-slice-aggregate-encode
-slice-aggregate-encode c =
+slice-aggregate-encode-by-rows : tie.Need-slice-aggregate-encode-by-rows
+slice-aggregate-encode-by-rows c =
     let start = c .before .before .before in
     sym (data-of-length (start .args .s) (start .args .stripe .now) (start .pre .long))
 
-encode-requires : tie.Need-encode-requires
-encode-requires c κs = search needs
+encode-by-rows-requires : tie.Need-encode-by-rows-requires
+encode-by-rows-requires c κs = search needs
 
 sub-add : tie.Need-sub-add
 sub-add c = search needs
@@ -40,12 +40,12 @@ same-length c = search needs
 
 returns : tie.Need-returns
 returns c =
-    let encode = c .before .before .before .before .before .before .before .before .before .before .before .encode in
+    let encode = c .before .before .before .before .before .before .before .before .before .before .before .encode-by-rows in
     let s = c .before .before .before .before .before .before .before .before .before .before .before .before .before .before .before .before in
     divided-lacks (s .args .s) (s .args .x) (s .args .stripe .now) _ _
     (whole-lacks (s .args .s) (s .args .stripe .now) (s .args .out .now) _ _ (first-lent _ _ _ _ (s .pre))
     (λ i. c .before .before .before .before .slice-known3 .given i .fits)
-    (encode .ensures .1)
+    (encode .ensures)
     (c .before .before .before .before .before .before .add .ensures ∙ ap (onto _ _) (rest (s .args .s) (s .args .stripe .now) (s .pre .long))))
     (λ i. c .slice-known4 .given i .fits) (c .before .before .divide .ensures)
 
@@ -54,8 +54,8 @@ fill-whole-spec =
     tie.close
     (tie.spec
     mul-d
-    slice-aggregate-encode
-    encode-requires
+    slice-aggregate-encode-by-rows
+    encode-by-rows-requires
     sub-add
     part-add-start
     part-add-end

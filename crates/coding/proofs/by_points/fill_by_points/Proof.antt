@@ -7,12 +7,13 @@ use Rattle.stripe.specs.declared.Shape.{Shape}
 use Rattle.stripe.specs.Stripe.{byPoints}
 use Rattle.stripe.specs.Column.{lentRefusal}
 use Rattle.stripe.proofs.Lent.{lent}
+use Rattle.constants.specs.Constants.{mostConstants}
 use Rattle.coding.proofs.ByPoints.{pointed, front-length}
 use borrow.Author.Needs.{needs}
 use Rattle.coding.proofs.by_points.fill_by_points.Statement.{statement}
 use Rattle.coding.proofs.by_points.fill_by_points.Tie as tie
 
-small : (s : Shape) (d p : ℕ) → (lentRefusal s d p ≡ 0) × (byPoints s ≡ true) → s .r * s .k ≤ 4080
+small : (s : Shape) (d p : ℕ) → (lentRefusal s d p ≡ 0) × (byPoints s ≡ true) → s .r * s .k ≤ mostConstants
 small s d p h = pointed s (lent s d p (h .0) .shape) (h .1) .small
 
 mul-n : tie.Need-mul-n

@@ -27,8 +27,8 @@ mul-end c =
 new-requires : tie.Need-new-requires
 new-requires c κs = search needs
 
-slice-aggregate-encode : tie.Need-slice-aggregate-encode
-slice-aggregate-encode c =
+slice-aggregate-encode-by-rows : tie.Need-slice-aggregate-encode-by-rows
+slice-aggregate-encode-by-rows c =
     let z = c .before .before .before .before .before .before in
     let e = c .before .before .before .part-bytes .ensures in
     let w = subst (λ (x : ℕ). z .args .s .k * x ≤ length (now (z .args .d))) (sym e) (omega (
@@ -38,8 +38,8 @@ slice-aggregate-encode c =
     )) in
     sym (length-take-le _ (now (z .args .d)) w)
 
-encode-requires : tie.Need-encode-requires
-encode-requires c κs = search needs
+encode-by-rows-requires : tie.Need-encode-by-rows-requires
+encode-by-rows-requires c κs = search needs
 
 same-length : tie.Need-same-length
 same-length c = search needs
@@ -49,7 +49,7 @@ returns-2 c =
     let z = c .before .before .before .before .before .before .before .before .before .before in
     let e = c .before .before .before .before .before .before .before .part-bytes .ensures in
     rows-by _ _ (z .pre .0) (λ o. c .before .before .before .before .before .before .if1 .left (e ∙ o)) _ _ e
-    (c .before .before .before .before .before .new .ensures) _ _ _ (z .pre .1 .0) (z .pre .1 .1) (c .before .before .encode .ensures .1)
+    (c .before .before .before .before .before .new .ensures) _ _ _ (z .pre .1 .0) (z .pre .1 .1) (c .before .before .encode-by-rows .ensures)
 
 pub fill-rows-spec : {M : Type 1} → statement M
 fill-rows-spec =
@@ -59,7 +59,7 @@ fill-rows-spec =
     returns
     mul-end
     new-requires
-    slice-aggregate-encode
-    encode-requires
+    slice-aggregate-encode-by-rows
+    encode-by-rows-requires
     same-length
     returns-2)

@@ -5,7 +5,7 @@ use mathlib.Core.Path.{sym, ap, _∙_}
 use native.Mathlib.Nat.{add-zero}
 use Rattle.stripe.specs.Stripe.{among}
 use Rattle.stripe.proofs.Lost.{rowLost}
-use Rattle.lost.specs.Lost.{lostList}
+use Rattle.mending.specs.Few.{fewList}
 use Rattle.mending.proofs.Among.{first-both, first-one, first-none}
 use Rattle.mending.proofs.survivors.first_row.Statement.{statement}
 use Rattle.mending.proofs.survivors.first_row.Tie as tie
@@ -22,21 +22,21 @@ is-lost-requires-2 c κs = search needs
 returns : tie.Need-returns
 returns c =
     let start = c .before .before .before .before in
-    first-both (rowLost (start .args .k) (lostList (start .args .lost)))
-    (ap (λ (x : ℕ). among x (lostList (start .args .lost))) (add-zero _) ∙ sym (c .before .before .before .is-lost .ensures) ∙ c .before .before .if1 .taken)
+    first-both (rowLost (start .args .k) (fewList (start .args .lost)))
+    (ap (λ (x : ℕ). among x (fewList (start .args .lost))) (add-zero _) ∙ sym (c .before .before .before .is-lost .ensures) ∙ c .before .before .if1 .taken)
     (sym (c .before .is-lost2 .ensures) ∙ c .if2 .taken)
 
 returns-2 : tie.Need-returns-2
 returns-2 c =
     let start = c .before .before .before .before in
-    first-one (rowLost (start .args .k) (lostList (start .args .lost)))
-    (ap (λ (x : ℕ). among x (lostList (start .args .lost))) (add-zero _) ∙ sym (c .before .before .before .is-lost .ensures) ∙ c .before .before .if1 .taken)
+    first-one (rowLost (start .args .k) (fewList (start .args .lost)))
+    (ap (λ (x : ℕ). among x (fewList (start .args .lost))) (add-zero _) ∙ sym (c .before .before .before .is-lost .ensures) ∙ c .before .before .if1 .taken)
     (sym (c .before .is-lost2 .ensures) ∙ c .if2 .left)
 
 returns-3 : tie.Need-returns-3
 returns-3 c =
-    first-none (rowLost (c .before .before .args .k) (lostList (c .before .before .args .lost)))
-    (ap (λ (x : ℕ). among x (lostList (c .before .before .args .lost))) (add-zero _) ∙ sym (c .before .is-lost .ensures) ∙ c .if1 .left)
+    first-none (rowLost (c .before .before .args .k) (fewList (c .before .before .args .lost)))
+    (ap (λ (x : ℕ). among x (fewList (c .before .before .args .lost))) (add-zero _) ∙ sym (c .before .is-lost .ensures) ∙ c .if1 .left)
 
 pub first-row-spec : {M : Type 1} → statement M
 first-row-spec =

@@ -5,7 +5,7 @@ use mathlib.Core.Path.{sym, ap, _∙_}
 use native.Mathlib.Nat.{add-zero}
 use Rattle.stripe.specs.Stripe.{among}
 use Rattle.stripe.proofs.Lost.{rowLost}
-use Rattle.lost.specs.Lost.{lostList}
+use Rattle.mending.specs.Few.{fewList}
 use Rattle.mending.proofs.Among.{step-one, step-two, step-next}
 use Rattle.mending.proofs.survivors.row_step.Statement.{statement}
 use Rattle.mending.proofs.survivors.row_step.Tie as tie
@@ -15,8 +15,8 @@ is-lost-requires c κs = search needs
 
 returns : tie.Need-returns
 returns c =
-    step-one (rowLost (c .before .before .args .k) (lostList (c .before .before .args .lost)))
-    (ap (λ (x : ℕ). among x (lostList (c .before .before .args .lost))) (add-zero _) ∙ sym (c .before .is-lost .ensures) ∙ c .if1 .taken)
+    step-one (rowLost (c .before .before .args .k) (fewList (c .before .before .args .lost)))
+    (ap (λ (x : ℕ). among x (fewList (c .before .before .args .lost))) (add-zero _) ∙ sym (c .before .is-lost .ensures) ∙ c .if1 .taken)
 
 add-is-lost : tie.Need-add-is-lost
 add-is-lost c = search needs
@@ -27,15 +27,15 @@ is-lost-requires-2 c κs = search needs
 returns-2 : tie.Need-returns-2
 returns-2 c =
     let start = c .before .before .before .before in
-    step-two (rowLost (start .args .k) (lostList (start .args .lost)))
-    (ap (λ (x : ℕ). among x (lostList (start .args .lost))) (add-zero _) ∙ sym (c .before .before .before .is-lost .ensures) ∙ c .before .before .if1 .left)
+    step-two (rowLost (start .args .k) (fewList (start .args .lost)))
+    (ap (λ (x : ℕ). among x (fewList (start .args .lost))) (add-zero _) ∙ sym (c .before .before .before .is-lost .ensures) ∙ c .before .before .if1 .left)
     (sym (c .before .is-lost2 .ensures) ∙ c .if2 .taken)
 
 returns-3 : tie.Need-returns-3
 returns-3 c =
     let start = c .before .before .before .before in
-    step-next (rowLost (start .args .k) (lostList (start .args .lost)))
-    (ap (λ (x : ℕ). among x (lostList (start .args .lost))) (add-zero _) ∙ sym (c .before .before .before .is-lost .ensures) ∙ c .before .before .if1 .left)
+    step-next (rowLost (start .args .k) (fewList (start .args .lost)))
+    (ap (λ (x : ℕ). among x (fewList (start .args .lost))) (add-zero _) ∙ sym (c .before .before .before .is-lost .ensures) ∙ c .before .before .if1 .left)
     (sym (c .before .is-lost2 .ensures) ∙ c .if2 .left)
 
 pub row-step-spec : {M : Type 1} → statement M

@@ -8,24 +8,24 @@ use Rattle.mending.proofs.system.system_of.Statement.{statement}
 use Rattle.mending.proofs.system.system_of.Tie as tie
 
 add-data-lost : tie.Need-add-data-lost
-add-data-lost c = let f = allowed (c .args .s) (c .pre .ready .shape) in omega (arith, f .data-most, f .parity-most)
+add-data-lost c = let f = allowed (c .args .s) (c .pre .shape) in omega (arith, f .data-most, f .parity-most)
 
 data-lost-requires : tie.Need-data-lost-requires
 data-lost-requires c κs =
-    let f = allowed (c .args .s) (c .pre .ready .shape) in
-    (omega (arith, rows-most (c .args .s) f (c .pre .rows), c .pre .ready .few), c .pre .ready .ascend)
+    let f = allowed (c .args .s) (c .pre .shape) in
+    (omega (arith, rows-most (c .args .s) f (c .pre .rows), c .pre .few), c .pre .ascend)
 
 first-row-requires : tie.Need-first-row-requires
 first-row-requires c κs =
     let start = c .before in
-    let f = allowed (start .args .s) (start .pre .ready .shape) in
-    (omega (arith, rows-most (start .args .s) f (start .pre .rows), start .pre .ready .few), f .data-most)
+    let f = allowed (start .args .s) (start .pre .shape) in
+    (omega (arith, rows-most (start .args .s) f (start .pre .rows), start .pre .few), f .data-most)
 
 row-step-requires : tie.Need-row-step-requires
 row-step-requires c κs =
     let start = c .before .before in
-    let f = allowed (start .args .s) (start .pre .ready .shape) in
-    (omega (arith, rows-most (start .args .s) f (start .pre .rows), start .pre .ready .few), f .data-most)
+    let f = allowed (start .args .s) (start .pre .shape) in
+    (omega (arith, rows-most (start .args .s) f (start .pre .rows), start .pre .few), f .data-most)
 
 array-read-pivot-of : tie.Need-array-read-pivot-of
 array-read-pivot-of c = search needs

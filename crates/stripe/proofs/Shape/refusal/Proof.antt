@@ -1,12 +1,9 @@
 -- `Shape::refusal` meets its contract: each test decides one part of the definition.
-use mathlib.Core.Path.{sym, ap, _∙_}
-use mathlib.Core.Bool.{Bool, _||_, true≢false}
-use Prim.Native.Nat.{_+_}
-use lib.Dec.{leb}
+use mathlib.Core.Path.{sym, _∙_}
 use native.Mathlib.Omega.{arith}
 use borrow.Author.Needs.{needs}
 use borrow.Author.Tests.{le-leb, lt-leb, not-true, not-false}
-use Rattle.stripe.specs.Shape.{shapeRefusal, mostRows, mostPoints}
+use Rattle.stripe.specs.Shape.{shapeRefusal}
 use Rattle.stripe.proofs.Shape.refusal.Statement.{statement}
 use Rattle.stripe.proofs.Shape.refusal.Tie as tie
 
@@ -37,12 +34,15 @@ points-allowed-requires : tie.Need-points-allowed-requires
 points-allowed-requires c κs = (omega (arith, c .before .before .if2 .left), omega (arith, c .if4 .left))
 
 returns-5 : tie.Need-returns-5
+unfolding shapeRefusal
 returns-5 c =
-    let s = c .before .before .before .before .before .before .args .self in
-    absurd
-    (true≢false
-    (sym (ap (λ (b : Bool). b || leb (s .k + s .r) mostPoints) (le-leb _ mostRows (c .before .before .if4 .left)))
-    ∙ sym (c .before .points-allowed .ensures) ∙ not-true _ (c .if5 .taken)))
+    simp (
+      le-leb _ _ (c .before .before .before .before .before .if1 .left),
+      le-leb _ _ (c .before .before .before .before .if2 .left),
+      le-leb _ _ (c .before .before .before .if3 .left),
+      le-leb _ _ (c .before .before .if4 .left),
+      sym (c .before .points-allowed .ensures) ∙ not-true _ (c .if5 .taken),
+    )
 
 mark-allowed-requires : tie.Need-mark-allowed-requires
 mark-allowed-requires c κs = search needs
@@ -55,6 +55,7 @@ returns-6 c =
       le-leb _ _ (c .before .before .before .before .before .before .if2 .left),
       le-leb _ _ (c .before .before .before .before .before .if3 .left),
       le-leb _ _ (c .before .before .before .before .if4 .left),
+      sym (c .before .before .before .points-allowed .ensures) ∙ not-false _ (c .before .before .if5 .left),
       sym (c .before .mark-allowed .ensures) ∙ not-true _ (c .if6 .taken),
     )
 
@@ -69,6 +70,7 @@ returns-7 c =
       le-leb _ _ (c .before .before .before .before .before .before .before .before .if2 .left),
       le-leb _ _ (c .before .before .before .before .before .before .before .if3 .left),
       le-leb _ _ (c .before .before .before .before .before .before .if4 .left),
+      sym (c .before .before .before .before .before .points-allowed .ensures) ∙ not-false _ (c .before .before .before .before .if5 .left),
       sym (c .before .before .before .mark-allowed .ensures) ∙ not-false _ (c .before .before .if6 .left),
       sym (c .before .length-allowed .ensures) ∙ not-true _ (c .if7 .taken),
     )
@@ -81,6 +83,7 @@ returns-8 c =
       le-leb _ _ (c .before .before .before .before .before .before .before .before .if2 .left),
       le-leb _ _ (c .before .before .before .before .before .before .before .if3 .left),
       le-leb _ _ (c .before .before .before .before .before .before .if4 .left),
+      sym (c .before .before .before .before .before .points-allowed .ensures) ∙ not-false _ (c .before .before .before .before .if5 .left),
       sym (c .before .before .before .mark-allowed .ensures) ∙ not-false _ (c .before .before .if6 .left),
       sym (c .before .length-allowed .ensures) ∙ not-false _ (c .if7 .left),
     )

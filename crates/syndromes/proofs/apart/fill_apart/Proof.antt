@@ -20,25 +20,25 @@ mul-from c = omega (arith, mul-le-mul-right (c .before .before .before .args .l)
 mul-to : tie.Need-mul-to
 mul-to c = search needs
 
-sub-encode : tie.Need-sub-encode
-sub-encode c = omega (arith, mul-le-mul-right (c .before .before .before .args .l) (c .before .before .before .pre .within))
+sub-encode-by-rows : tie.Need-sub-encode-by-rows
+sub-encode-by-rows c = omega (arith, mul-le-mul-right (c .before .before .before .args .l) (c .before .before .before .pre .within))
 
-part-encode-start : tie.Need-part-encode-start
-part-encode-start c = omega (arith, mul-le-mul-right (c .before .before .before .args .l) (c .before .before .before .pre .within))
+part-encode-by-rows-start : tie.Need-part-encode-by-rows-start
+part-encode-by-rows-start c = omega (arith, mul-le-mul-right (c .before .before .before .args .l) (c .before .before .before .pre .within))
 
-part-encode-end : tie.Need-part-encode-end
-part-encode-end c = search needs
+part-encode-by-rows-end : tie.Need-part-encode-by-rows-end
+part-encode-by-rows-end c = search needs
 
-encode-requires : tie.Need-encode-requires
-encode-requires c κs = search needs
+encode-by-rows-requires : tie.Need-encode-by-rows-requires
+encode-by-rows-requires c κs = search needs
 
 add-below-requires : tie.Need-add-below-requires
 add-below-requires c κs =
-    let encode = c .before .before .before .encode in
+    let encode = c .before .before .before .encode-by-rows in
     let s = c .before .before .before .before .before .before .before .before .before in
     let n = c .before .before .before .before .before .before .new .ensures in
     let up = encoded-upper (c .before .before .before .before .before .before .new .result) _ _ (encode .last .1 .1 .0) _ _ _ _ (s .pre) (n .0) (n .1 .0)
-    (n .1 .1 .0) (n .1 .1 .1) (encode .ensures .1) in
+    (n .1 .1 .0) (n .1 .1 .1) (encode .ensures) in
     (subst (Parted _ _ _ _ _) (s .pre .room ∙ sym (up .long)) (s .pre), up)
 
 same-length : tie.Need-same-length
@@ -55,10 +55,10 @@ fill-apart-spec =
     new-requires
     mul-from
     mul-to
-    sub-encode
-    part-encode-start
-    part-encode-end
-    encode-requires
+    sub-encode-by-rows
+    part-encode-by-rows-start
+    part-encode-by-rows-end
+    encode-by-rows-requires
     add-below-requires
     same-length
     returns)

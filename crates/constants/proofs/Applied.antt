@@ -11,6 +11,7 @@ use Rattle.field.proofs.Bytes.{tabulate-length, tabulate-at}
 use Rattle.points.specs.Points.{dataPoints, parityPoints, points, parityOf}
 use Rattle.points.specs.Mending.{entries}
 use Rattle.points.specs.Folding.{foldParity, foldPoints, joined, parts, Each}
+use Rattle.points.proofs.Joined.{parts-count}
 use Rattle.points.specs.Lagrange.{dot, lagrange}
 use Rattle.points.proofs.Distinct.{data-points-length, parity-points-length}
 use Rattle.points.proofs.Mended.{entries-length}
@@ -105,11 +106,6 @@ computed-applied k r l es xs from v q asc few m =
 
 -- ---- a fold
 
-parts-length : (m n : ℕ) (xs : List ℕ) → length (parts m n xs) ≡ n
-unfolding parts
-parts-length m zero xs = refl
-parts-length m (suc n) xs = ap suc (parts-length m n (drop m xs))
-
 parts-each : (r l p n : ℕ) (xs : List ℕ) → Each (λ ps. length ps ≡ r) (map (λ ps. across ps l p 0 r) (parts (r * l) n xs))
 unfolding parts Each
 parts-each r l p zero xs = tt
@@ -133,6 +129,6 @@ unfolding foldingOf
 fold-applied k r l n xs j p h m hp =
     ap₂ dot
     (row-of-weights (parityPoints r) (foldPoints k r n) (n * r) j (fold-points-length k r n) (subst (λ (n : ℕ). j < n) (sym (parity-points-length r)) m)
-    ∙ ap (λ (c : ℕ). map (lagrange (parityPoints r) j) (foldPoints k r c)) (sym (length-map (parts (r * l) n xs) _ ∙ parts-length (r * l) n xs)))
+    ∙ ap (λ (c : ℕ). map (lagrange (parityPoints r) j) (foldPoints k r c)) (sym (length-map (parts (r * l) n xs) _ ∙ parts-count (r * l) n xs)))
     (bytes-in-order xs 0 l p (n * r) ∙ sym (parts-across r l p n xs hp))
     ∙ sym (fold-weights k r (map (λ ps. across ps l p 0 r) (parts (r * l) n xs)) h (parts-each r l p n xs) j m)

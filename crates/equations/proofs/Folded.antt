@@ -15,6 +15,7 @@ use Rattle.stripe.proofs.Places.{across-length, across-take}
 use Rattle.points.specs.Points.{checkSum}
 use Rattle.points.specs.Folding.{foldParity, Stripe, Long, Sound, Each, joined, parities}
 use Rattle.points.specs.Folding.{wideData as wideBytes, wideStripe as wideWord}
+use Rattle.points.proofs.Joined.{joined-length}
 use Rattle.points.proofs.Folded.{each-at, fold-length, fold-bytes, wide-sum, wide-sound, sound-shows-at}
 use Rattle.points.proofs.Folded.{two-sittings as sittings-at}
 use Rattle.equations.specs.Whole.{sumOf, Codeword, parity, foldColumns, wideData, wideStripe}
@@ -37,12 +38,6 @@ unfolding foldColumns
 fold-columns-across k r l pss p hp = columns-across r l _ p hp (fold-length k r _)
 
 -- ---- joined data at a place
-
-joined-length : (m : ℕ) (dss : List (List ℕ)) → Each (λ ds. length ds ≡ m) dss → length (joined dss) ≡ length dss * m
-unfolding joined Each
-joined-length m [] h = sym (zero-mul m)
-joined-length m (ds ∷ dss) h =
-    length-append ds (joined dss) ∙ ap₂ _+_ (h .0) (joined-length m dss (h .1)) ∙ omega (arith, suc-mul (length dss) m)
 
 across-front : (ds rest : List ℕ) (l p k : ℕ) → p < l → length ds ≡ k * l → across (ds ++ rest) l p 0 k ≡ across ds l p 0 k
 across-front ds rest l p k hp e =
@@ -95,7 +90,7 @@ module _ (k r l : ℕ) where
   wide-data-length : (zss : List (List ℕ)) → Each Whole zss → length (wideData k l zss) ≡ length zss * k * l
   unfolding wideData
   wide-data-length zss h =
-      joined-length (k * l) (map (λ zs. take (k * l) zs) zss) (data-long zss h)
+      joined-length (k * l) (map (λ zs. take (k * l) zs) zss) (each-at (λ ds. length ds ≡ k * l) [] _ (data-long zss h))
       ∙ ap (λ (n : ℕ). n * (k * l)) (length-map zss (λ zs. take (k * l) zs)) ∙ sym (mul-assoc (length zss) k l)
 
   wide-data-across : (p : ℕ) (zss : List (List ℕ)) → p < l → Each Whole zss → across (wideData k l zss) l p 0 (length zss * k) ≡ wideBytes (at p zss)

@@ -5,11 +5,11 @@ use mathlib.Core.Bool.{Bool, cond}
 use mathlib.Core.List.{List, [], _∷_, _++_, map, append-assoc}
 use mathlib.Core.Logic.{_⊎_, inl, inr}
 use Prim.Native.Nat.{ℕ, zero, suc, _+_, _-_, _*_, _<_, _≤_}
-use native.Mathlib.Nat.{suc-mul, zero-mul, add-mul, add-comm, mul-le-mul-right, not-suc-le-zero, le-of-suc-le-suc}
+use native.Mathlib.Nat.{zero-mul, add-mul, mul-le-mul-right, not-suc-le-zero, le-of-suc-le-suc}
 use native.Mathlib.Omega.{arith}
 use native.Mathlib.Numerals.{add-one}
-use lib.ListN.{length, getD, take, drop, length-append, length-take, length-drop, List·getD-append, take-append-drop, length-map}
-use lib.Seq.{getD-take, getD-drop, getD-append-add, getD-at, take-at, drop-at}
+use lib.ListN.{length, getD, take, drop, length-append, length-take, length-drop, List·getD-append, length-map}
+use lib.Seq.{getD-take, getD-drop, getD-append-add, getD-at}
 use borrow.Author.Tests.{eq-eqb}
 use Rattle.stripe.specs.declared.Shape.{Shape}
 use Rattle.stripe.specs.Shape.{dataLength, stripeLength}
@@ -22,6 +22,7 @@ use Rattle.plan.specs.declared.Kind.the-variants.{A, B, C}
 use Rattle.plan.specs.Plan.{kindOf, foldRefusal, columnSpans, kindSpans, spansFrom, plan, bytesEach, bytesRead}
 use Rattle.fold.specs.Fold.{partBytes, named, cutOut, readOf}
 use Rattle.points.specs.Folding.{parts, joined}
+use Rattle.points.proofs.Joined.{joined-length, parts-joined}
 use Rattle.plan.proofs.Foldable.{IsA, IsB, IsC, Foldable, foldable}
 use Rattle.fold.proofs.Prepared.{run-is, run-whole, each-is}
 use Rattle.plan.proofs.Counted.{runs-sum}
@@ -200,30 +201,7 @@ read-length s f zs a (inr (inl h)) long =
 read-length s f zs a (inr (inr h)) long =
     subst (λ (κ : Kind). length (readOf κ s f zs) ≡ bytesEach κ s f) (sym (h .kind)) (c-length s zs long f)
 
--- ---- parts
-
-pub parts-joined : (m : ℕ) (xss : List (List ℕ)) → ((l : ℕ) → l < length xss → length (getD xss l []) ≡ m) → parts m (length xss) (joined xss) ≡ xss
-unfolding parts joined
-parts-joined m [] h = refl
-parts-joined m (xs ∷ xss) h =
-    let e : length xs ≡ m = h 0 (omega arith) in
-    ap₂ (λ (x y : List ℕ). x ∷ parts m (length xss) y) (take-at xs (joined xss) m e) (drop-at xs (joined xss) m e)
-    ∙ ap (λ (y : List (List ℕ)). xs ∷ y) (parts-joined m xss (λ l k. h (suc l) (omega arith)))
-
-pub joined-length : (m : ℕ) (xss : List (List ℕ)) → ((l : ℕ) → l < length xss → length (getD xss l []) ≡ m) → length (joined xss) ≡ length xss * m
-unfolding joined
-joined-length m [] h = sym (zero-mul m)
-joined-length m (xs ∷ xss) h =
-    length-append xs (joined xss) ∙ ap₂ _+_ (h 0 (omega arith)) (joined-length m xss (λ l k. h (suc l) (omega arith))) ∙ add-comm m _
-    ∙ sym (suc-mul (length xss) m)
-
--- an input is its parts joined
-pub joined-parts : (m n : ℕ) (xs : List ℕ) → length xs ≡ n * m → joined (parts m n xs) ≡ xs
-unfolding parts joined
-joined-parts m zero [] e = refl
-joined-parts m zero (x ∷ xs) e = absurd (omega arith)
-joined-parts m (suc n) xs e =
-    ap (λ (y : List ℕ). take m xs ++ y) (joined-parts m n (drop m xs) (length-drop m xs ∙ omega arith)) ∙ take-append-drop m xs
+-- ---- what is read of each stripe
 
 pub getD-read : (g : List ℕ → List ℕ) (zss : List (List ℕ)) (l : ℕ) → l < length zss → getD (map g zss) l [] ≡ g (getD zss l [])
 getD-read g [] l h = absurd (not-suc-le-zero h)

@@ -1,38 +1,32 @@
--- Kind C: the fold is the parity of the wide stripe whose data are the bytes read.
+-- Kind C: the fold is the parity of the wide stripe whose data are the bytes read, and these are all data in order.
 use mathlib.Core.Path.{_≡_, refl, sym, ap, ap₂, _∙_}
 use mathlib.Core.Bool.{Bool, true, false}
-use mathlib.Core.List.{List, []}
-use Prim.Native.Nat.{ℕ, zero, suc, _+_, _*_, _<_}
-use native.Mathlib.Nat.{mul-assoc, not-suc-le-zero, le-of-suc-le-suc}
-use native.Mathlib.Omega.{arith}
-use lib.ListN.{length, getD, drop, length-drop}
-use lib.Seq.{length-take-le}
+use mathlib.Core.List.{List, [], map}
+use Prim.Native.Nat.{ℕ, _+_, _*_, _<_}
+use native.Mathlib.Nat.{mul-assoc}
+use lib.ListN.{length, getD}
 use borrow.Author.Tests.{eq-eqb}
 use Rattle.field.specs.Row.{row}
 use Rattle.stripe.specs.declared.Shape.{Shape}
+use Rattle.stripe.specs.Shape.{stripeLength}
 use Rattle.stripe.specs.Column.{lentRefusal}
 use Rattle.coding.specs.Encode.{encodedByRows}
 use Rattle.coding.proofs.Encoded.{encoded-done, encoded-by-rows}
-use Rattle.stripe.specs.Stripe.{across, byPoints, rowAt, parity}
+use Rattle.stripe.specs.Stripe.{across, byPoints, rowAt, parity, dataOf}
 use Rattle.stripe.proofs.Places.{parity-exact}
 use Rattle.plan.specs.declared.Kind.{Kind}
 use Rattle.plan.specs.declared.Kind.the-variants.{C}
-use Rattle.plan.specs.Plan.{foldRefusal, kindOf, bytesEach, bytesRead, wideShape}
-use Rattle.fold.specs.Fold.{foldByte, foldOf}
-use Rattle.points.specs.Folding.{parts}
+use Rattle.plan.specs.Plan.{foldRefusal, kindOf, plan, bytesEach, bytesRead, wideShape}
+use Rattle.fold.specs.Fold.{foldByte, foldOf, wideData, cutOut, readOf}
+use Rattle.points.specs.Folding.{joined, parts}
+use Rattle.points.proofs.Joined.{parts-count, parts-each, joined-parts}
+use Rattle.points.proofs.Folded.{map-same-at}
 use Rattle.plan.proofs.Foldable.{Foldable, foldable, wide-by-points, wide-allowed}
 use Rattle.plan.proofs.Costs.{bytes-read}
-use Rattle.fold.proofs.Cut.{joined-parts}
+use Rattle.fold.proofs.Cut.{c-whole, cut-joined, cut-length}
 use Rattle.fold.proofs.Sums.{all-read}
-use Rattle.fold.proofs.Summing.{parts-count}
 use Rattle.fold.proofs.Wide.{wide-parity}
 use Rattle.fold.proofs.Laws.{stripes-data, fold-is, fold-length, fold-at}
-
-parts-each : (m n : ℕ) (xs : List ℕ) → length xs ≡ n * m → (i : ℕ) → i < length (parts m n xs) → length (getD (parts m n xs) i []) ≡ m
-unfolding parts
-parts-each m zero xs e i h = absurd (not-suc-le-zero h)
-parts-each m (suc n) xs e zero h = length-take-le m xs (omega arith)
-parts-each m (suc n) xs e (suc i) h = parts-each m n (drop m xs) (length-drop m xs ∙ omega arith) i (le-of-suc-le-suc h)
 
 module _ (s : Shape) (n f : ℕ) (passed : foldRefusal s n f ≡ 0) where
   able : Foldable s n f
@@ -88,3 +82,22 @@ module _ (s : Shape) (n f : ℕ) (passed : foldRefusal s n f ≡ 0) where
     pub encoded-fold : byPoints s ≡ false → (ys : List ℕ) → length ys ≡ f * s .l → encodedByRows (wideShape s n f) xs ys ≡ foldOf s n f xs
     encoded-fold rows ys e =
         encoded-by-rows (wideShape s n f) xs ys (able .new-rows rows) ∙ sym (encoded-done (wideShape s n f) xs ys (wide-lent (length ys) e)) ∙ sym fold-parity
+
+-- ---- whole stripes
+
+module _ (s : Shape) (f : ℕ) (zss : List (List ℕ)) (passed : foldRefusal s (length zss) f ≡ 0)
+    (long : (l : ℕ) → l < length zss → length (getD zss l []) ≡ stripeLength s) (kind : kindOf s f ≡ C) where
+  -- what the plan names are all data in order
+  named-data : cutOut s zss (plan s (length zss) f) ≡ wideData s zss
+  unfolding wideData
+  named-data =
+      cut-joined s f zss passed long
+      ∙ ap joined
+      (ap (λ (κ : Kind). map (readOf κ s f) zss) kind
+      ∙ map-same-at [] (readOf C s f) (λ zs. dataOf s zs) zss (λ l h. c-whole s (getD zss l []) (long l h) f))
+
+  -- so the fold is the parity of all data in order, whatever the parity columns hold
+  pub data-parity : foldOf s (length zss) f (cutOut s zss (plan s (length zss) f)) ≡ parity (wideShape s (length zss) f) (wideData s zss)
+  data-parity =
+      fold-parity s (length zss) f passed (cutOut s zss (plan s (length zss) f)) kind (cut-length s f zss passed long)
+      ∙ ap (parity (wideShape s (length zss) f)) named-data

@@ -4,6 +4,7 @@ pub mod Cut
 pub mod Carried
 pub mod Sums
 pub mod Wide
+pub mod Encoded
 pub mod Pointed
 pub mod Shows
 pub mod Stepped
@@ -12,6 +13,5 @@ pub mod Rowed
 pub mod Summing
 pub mod Offsets
 pub mod Verdict
-pub mod Encoded
 pub mod ByPoints
 pub mod Unique

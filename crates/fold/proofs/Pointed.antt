@@ -1,40 +1,34 @@
--- By points: the fold of what the plan names of whole stripes is that of their parity columns, kind A, or the parity of all their data, kind C. So what
--- crate `equations` knows of folds holds of it.
+-- By points, kind A: the fold of what the plan names of whole stripes is that of their parity columns. So what crate `equations` knows of folds holds of it.
 use mathlib.Core.Path.{_≡_, refl, sym, ap, ap₂, _∙_, subst}
 use mathlib.Core.Bool.{true}
 use mathlib.Core.List.{List, [], _∷_, _++_, map}
 use mathlib.Core.Logic.{_⊎_, inl, inr}
-use Prim.Native.Nat.{ℕ, suc, _+_, _*_, _<_, _≤_}
+use Prim.Native.Nat.{ℕ, _+_, _*_, _<_, _≤_}
 use native.Mathlib.Omega.{arith}
-use lib.ListN.{length, getD, drop, length-map}
+use lib.ListN.{length, getD, drop}
 use Rattle.field.specs.Bytes.{Bytes}
 use Rattle.field.proofs.Cases.{same-or-not}
-use Rattle.points.proofs.Folded.{each-from}
+use Rattle.points.proofs.Folded.{each-from, map-same-at}
 use Rattle.stripe.specs.declared.Shape.{Shape}
 use Rattle.stripe.specs.Shape.{stripeLength}
-use Rattle.stripe.specs.Stripe.{byPoints, parity, dataOf, Codeword}
+use Rattle.stripe.specs.Stripe.{byPoints, parity, Codeword}
 use Rattle.stripe.proofs.Codewords.{codeword-parity}
 use Rattle.equations.specs.Whole.{foldColumns, Codeword as Zeros, wideData as columnsData, wideStripe as columnsStripe}
 use Rattle.equations.proofs.Codes.{codeword-zeros, zeros-codeword}
 use Rattle.equations.proofs.Folded.{wide-codeword, stale-shows as columns-show}
 use Rattle.plan.specs.declared.Kind.{Kind}
-use Rattle.plan.specs.declared.Kind.the-variants.{A, C}
+use Rattle.plan.specs.declared.Kind.the-variants.{A}
 use Rattle.plan.specs.Plan.{kindOf, foldRefusal, plan, wideShape}
 use Rattle.plan.proofs.Foldable.{Foldable, foldable, wide-by-points}
 use Rattle.fold.specs.Fold.{foldStripes, foldOf, wideData, cutOut, readOf, wideStripe}
-use Rattle.points.specs.Folding.{joined}
-use Rattle.fold.proofs.Laws.{stripes-columns, stripes-data, fold-is}
-use Rattle.fold.proofs.Cut.{a-whole, c-whole, cut-parts}
+use Rattle.fold.proofs.Laws.{stripes-columns, fold-is}
+use Rattle.fold.proofs.Cut.{a-whole, cut-parts}
 use Rattle.fold.proofs.Wide.{wide-data, wide-answer}
 
 -- the data of all stripes in order
 data-same : (s : Shape) (zss : List (List ℕ)) → wideData s zss ≡ columnsData (s .k) (s .l) zss
 unfolding wideData columnsData
 data-same s zss = refl
-
-map-is : (g h : List ℕ → List ℕ) (zss : List (List ℕ)) → ((l : ℕ) → l < length zss → g (getD zss l []) ≡ h (getD zss l [])) → map g zss ≡ map h zss
-map-is g h [] e = refl
-map-is g h (zs ∷ zss) e = ap₂ (λ (x : List ℕ) (y : List (List ℕ)). x ∷ y) (e 0 (omega arith)) (map-is g h zss (λ l m. e (suc l) (omega arith)))
 
 -- ---- the fold's answer
 
@@ -55,23 +49,14 @@ module _ (s : Shape) (f : ℕ) (zss : List (List ℕ)) (passed : foldRefusal s (
   answer-is : answer ≡ foldStripes s f (map (readOf (kindOf s f) s f) zss)
   answer-is = fold-is s (length zss) f _ ∙ ap (foldStripes s f) (cut-parts s f zss passed long)
 
-  -- kind C: what the plan names of a stripe are its data, so the answer is the parity of all data in order
-  pub data-parity : kindOf s f ≡ C → answer ≡ parity (wideShape s (length zss) f) (wideData s zss)
-  unfolding wideData
-  data-parity kind =
-      answer-is ∙ stripes-data s f (map (readOf (kindOf s f) s f) zss) points-here kind
-      ∙ ap₂ (λ (n : ℕ) (xss : List (List ℕ)). parity (wideShape s n f) (joined xss)) (length-map zss (readOf (kindOf s f) s f))
-      (ap (λ (κ : Kind). map (readOf κ s f) zss) kind
-      ∙ map-is (readOf C s f) (λ zs. dataOf s zs) zss (λ l h. c-whole s (getD zss l []) (long l h) f))
-
-  -- kind A: what it names of a stripe are all its parity columns, so the wide stripe is that of crate `equations`
+  -- kind A: what the plan names of a stripe are all its parity columns, so the wide stripe is that of crate `equations`
   module _ (kind : kindOf s f ≡ A) where
-    answer-columns : answer ≡ foldColumns (s .k) (s .r) (s .l) (map (λ zs. drop (s .k * s .l) zs) zss)
+    pub answer-columns : answer ≡ foldColumns (s .k) (s .r) (s .l) (map (λ zs. drop (s .k * s .l) zs) zss)
     answer-columns =
         answer-is ∙ stripes-columns s f (map (readOf (kindOf s f) s f) zss) points-here kind
         ∙ ap (foldColumns (s .k) (s .r) (s .l))
         (ap₂ (λ (κ : Kind) (g : ℕ). map (readOf κ s g) zss) kind same
-        ∙ map-is (readOf A s (s .r)) (λ zs. drop (s .k * s .l) zs) zss (λ l h. a-whole s (getD zss l []) (long l h)))
+        ∙ map-same-at [] (readOf A s (s .r)) (λ zs. drop (s .k * s .l) zs) zss (λ l h. a-whole s (getD zss l []) (long l h)))
 
     wide-same : wideStripe s (length zss) f zss ≡ columnsStripe (s .k) (s .r) (s .l) zss
     unfolding wideStripe columnsStripe

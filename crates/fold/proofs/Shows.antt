@@ -34,7 +34,8 @@ use Rattle.plan.proofs.Foldable.{IsA, IsB, IsC, Foldable, foldable}
 use Rattle.fold.proofs.Prepared.{run-whole}
 use Rattle.fold.proofs.Laws.{fold-length, fold-bytes}
 use Rattle.fold.proofs.Wide.{answer-is, wide-data, wide-answer, wide-data-length, disagreement-sum}
-use Rattle.fold.proofs.Pointed.{data-parity, columns-parity, stale-shows}
+use Rattle.fold.proofs.Encoded.{data-parity}
+use Rattle.fold.proofs.Pointed.{columns-parity, stale-shows}
 use Rattle.fold.proofs.Sums.{map-none, map-one}
 
 pub codeword-agrees : (s : Shape) (zs : List ℕ) (i p : ℕ) → Codeword s zs → i < s .r → p < s .l → disagreement s zs i p ≡ 0
@@ -179,11 +180,11 @@ bytes-part s (zs ∷ zss) long b (suc l) h =
     bytes-part s zss (λ i m. long (suc i) (omega arith))
     (subst Bytes (drop-at (dataOf s zs) _ (dataLength s) (data-of-length s zs (long 0 (omega arith)))) (drop-bytes (dataLength s) _ b)) l (omega arith)
 
-wide-all : (s : Shape) (f : ℕ) (zss : List (List ℕ)) → ((l : ℕ) → l < length zss → Bytes (getD zss l [])) → Bytes (wideStripe s (length zss) f zss)
+pub wide-all : (s : Shape) (f : ℕ) (zss : List (List ℕ)) → ((l : ℕ) → l < length zss → Bytes (getD zss l [])) → Bytes (wideStripe s (length zss) f zss)
 unfolding wideStripe
 wide-all s f zss h = append-bytes (wideData s zss) _ (bytes-wide s zss h) (fold-bytes s (length zss) f _)
 
-wide-length : (s : Shape) (f : ℕ) (zss : List (List ℕ)) → foldRefusal s (length zss) f ≡ 0
+pub wide-length : (s : Shape) (f : ℕ) (zss : List (List ℕ)) → foldRefusal s (length zss) f ≡ 0
     → ((l : ℕ) → l < length zss → length (getD zss l []) ≡ stripeLength s)
     → length (wideStripe s (length zss) f zss) ≡ stripeLength (wideShape s (length zss) f)
 unfolding wideStripe
@@ -230,7 +231,7 @@ module _ (s : Shape) (f : ℕ) (zss : List (List ℕ)) (passed : foldRefusal s (
       go false e k = rows-parity e
       go true e (inl h) = columns-parity s f zss passed long e (h .kind) codewords
       go true e (inr (inl h)) = rows-parity (prepared-by-rows s (able .shape) (let g = h .prepared .gains in omega arith))
-      go true e (inr (inr h)) = data-parity s f zss passed long e (h .kind)
+      go true e (inr (inr h)) = data-parity s f zss passed long (h .kind)
 
   -- the wide stripe is then a codeword
   pub folded-codeword : Codeword (wideShape s (length zss) f) (wideStripe s (length zss) f zss)

@@ -1,5 +1,5 @@
 -- Stripes are taken in from the last to the first, by Horner's rule: each multiplies what is there by its weight and adds its share.
-use mathlib.Core.Path.{_≡_, refl, sym, ap, ap₂, _∙_, subst}
+use mathlib.Core.Path.{_≡_, sym, ap, ap₂, _∙_, subst}
 use mathlib.Core.Bool.{Bool, true, false}
 use mathlib.Core.List.{List, [], _∷_}
 use mathlib.Core.Logic.{_⊎_, inl, inr}
@@ -26,6 +26,7 @@ use Rattle.plan.proofs.Foldable.{foldable}
 use Rattle.plan.proofs.Costs.{bytes-read}
 use Rattle.fold.specs.Fold.{share, foldByte, foldStripes, foldOf}
 use Rattle.points.specs.Folding.{parts}
+use Rattle.points.proofs.Joined.{parts-count}
 use Rattle.fold.specs.Shares.{stays, taken}
 use Rattle.fold.proofs.Laws.{fold-none, fold-cons, stripes-length, stripes-place, fold-is}
 
@@ -73,11 +74,6 @@ part-is m (suc n) xs (suc l) h =
     let e : m + l * m ≡ suc l * m = omega arith in
     part-is m n (drop m xs) l (le-of-suc-le-suc h)
     ∙ ap (λ (ys : List ℕ). take m ys ∷ drop (suc l) (parts m n (drop m xs))) (drop-drop (l * m) m xs ∙ ap (λ (o : ℕ). drop o xs) e)
-
-pub parts-count : (m n : ℕ) (xs : List ℕ) → length (parts m n xs) ≡ n
-unfolding parts
-parts-count m zero xs = refl
-parts-count m (suc n) xs = ap suc (parts-count m n (drop m xs))
 
 bytes-part : (m o : ℕ) (xs : List ℕ) → Bytes xs → Bytes (take m (drop o xs))
 bytes-part m o xs h = take-bytes m (drop o xs) (drop-bytes o xs h)

@@ -22,7 +22,8 @@ use Rattle.fold.specs.Fold.{share, foldByte, foldOf, wideData, cutOut, r
 use Rattle.points.specs.Folding.{joined}
 use Rattle.plan.proofs.Foldable.{Foldable, foldable, wide-by-points}
 use Rattle.fold.proofs.Laws.{fold-sum, fold-at}
-use Rattle.fold.proofs.Cut.{at-rest, joined-length, cut-parts, getD-read}
+use Rattle.points.proofs.Joined.{joined-length}
+use Rattle.fold.proofs.Cut.{at-rest, cut-parts, getD-read}
 use Rattle.fold.proofs.Carried.{shared}
 use Rattle.fold.proofs.Sums.{map-sum, rows-joined}
 

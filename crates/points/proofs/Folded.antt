@@ -34,10 +34,14 @@ each-from P d (x ∷ xs) h = (h 0 (suc-le-suc zero-le), each-from P d xs (λ l m
 
 -- ---- rows of values that stripes have
 
-pub map-same : {A : Type 0} (f g : A → ℕ) (P : A → Type 0) → ((x : A) → P x → f x ≡ g x) → (xs : List A) → Each P xs → map f xs ≡ map g xs
+pub map-same : {A B : Type 0} (f g : A → B) (P : A → Type 0) → ((x : A) → P x → f x ≡ g x) → (xs : List A) → Each P xs → map f xs ≡ map g xs
 unfolding Each
 map-same f g P h [] p = refl
-map-same f g P h (x ∷ xs) p = ap₂ (λ (y : ℕ) (ys : List ℕ). y ∷ ys) (h x (p .0)) (map-same f g P h xs (p .1))
+map-same f g P h (x ∷ xs) p = ap₂ _∷_ (h x (p .0)) (map-same f g P h xs (p .1))
+
+-- the same by their places
+pub map-same-at : {A B : Type 0} (d : A) (f g : A → B) (xs : List A) → ((l : ℕ) → l < length xs → f (getD xs l d) ≡ g (getD xs l d)) → map f xs ≡ map g xs
+map-same-at d f g xs h = map-same f g (λ x. f x ≡ g x) (λ x e. e) xs (each-from (λ x. f x ≡ g x) d xs h)
 
 add-step : (p x y r t : ℕ) → p ⊗ x ⊕ r ⊕ (p ⊗ y ⊕ t) ≡ p ⊗ (x ⊕ y) ⊕ (r ⊕ t)
 add-step p x y r t = simp (mul-add, sums)

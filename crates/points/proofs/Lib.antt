@@ -3,6 +3,7 @@ pub mod Distinct
 pub mod Parity
 pub mod Mended
 pub mod Determined
+pub mod Joined
 pub mod Folded
 pub mod Linear
 pub mod Lagrange

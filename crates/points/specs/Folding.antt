@@ -44,8 +44,8 @@ unfoldable pub joined : {A : Type 0} → List (List A) → List A
 joined [] = []
 joined (xs ∷ xss) = xs ++ joined xss
 
--- n parts of m bytes each
-unfoldable pub parts : ℕ → ℕ → List ℕ → List (List ℕ)
+-- n parts of m each
+unfoldable pub parts : {A : Type 0} → ℕ → ℕ → List A → List (List A)
 parts m zero xs = []
 parts m (suc n) xs = take m xs ∷ parts m n (drop m xs)
 

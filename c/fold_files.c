@@ -109,8 +109,8 @@ static void fold(void)
         sync_folder("wide.new");
         may_crash();
         expect(rename("wide.new", "wide") == 0, "the new parity counts");
-        sync_folder(".");
     }
+    sync_folder("."); /* the new name is on the disk before the old parity goes, also if a crash came right after the renaming */
     for (int s = 0; s < STRIPES; s++)
         for (int j = 0; j < R; j++) {
             may_crash();

@@ -10,28 +10,21 @@ use lib.ListN.{length, getD}
 use Rattle.field.specs.Bytes.{Bytes}
 use Rattle.stripe.specs.declared.Shape.{Shape}
 use Rattle.stripe.specs.Shape.{parityLength}
-use Rattle.stripe.specs.Stripe.{parityByte, parity, Codeword}
+use Rattle.stripe.specs.Stripe.{parity, Codeword}
 use Rattle.stripe.specs.Column.{lentRefusal}
 use Rattle.stripe.proofs.Places.{parity-at, place-split, place-column-lt, place-byte-lt}
 use Rattle.stripe.proofs.Lent.{Lent, lent}
 use Rattle.checking.specs.declared.Wrong.{Wrong}
 use Rattle.checking.specs.Compare.{agree, firstDifference}
-use Rattle.checking.specs.Check.{numberOf, valuesOf, firstWrong}
+use Rattle.checking.specs.Check.{numberOf, valuesOf, firstWrong, FirstDisagreement}
 use Rattle.checking.proofs.Comparing.{first-within, first-differs, first-before}
 use Rattle.checking.proofs.Where.{wrong-refused, wrong-nowhere, wrong-at, nowhere-codeword, codeword-nowhere}
-
--- parity column i holds at place p another byte than the parity by definition, and no parity byte before that one does
-pub record First (s : Shape) (ds ps : List ℕ) (i p : ℕ) : Type 0 where
-  pub column : i < s .r
-  pub place : p < s .l
-  pub differs : getD ps (i * s .l + p) 0 ≡ parityByte s ds i p → ⊥
-  pub before : (j q : ℕ) → j < s .r → q < s .l → j * s .l + q < i * s .l + p → getD ps (j * s .l + q) 0 ≡ parityByte s ds j q
 
 -- the answer where nothing is refused: 0 and no values for a codeword; 8 and the first disagreement, its column and place, for any other stripe
 abbrev pub Judged : Shape → List ℕ → List ℕ → Wrong → Type 0
 Judged s ds ps w =
     ((numberOf w ≡ 0) × ((valuesOf w ≡ []) × Codeword s (ds ++ ps)))
-    ⊎ ((numberOf w ≡ 8) × ((Codeword s (ds ++ ps) → ⊥) × ((i : ℕ) × ((p : ℕ) × ((valuesOf w ≡ i ∷ p ∷ []) × First s ds ps i p)))))
+    ⊎ ((numberOf w ≡ 8) × ((Codeword s (ds ++ ps) → ⊥) × ((i : ℕ) × ((p : ℕ) × ((valuesOf w ≡ i ∷ p ∷ []) × FirstDisagreement s ds ps i p)))))
 
 module _ (s : Shape) (ds ps : List ℕ) where
   -- 1, 2 or 5 where the numbers or the lengths lent are refused, and no values
@@ -46,7 +39,7 @@ module _ (s : Shape) (ds ps : List ℕ) where
     abbrev first : ℕ
     first = firstDifference ps (parity s ds)
 
-    first-found : agree ps (parity s ds) ≡ false → First s ds ps (first / s .l) (first % s .l)
+    pub first-found : agree ps (parity s ds) ≡ false → FirstDisagreement s ds ps (first / s .l) (first % s .l)
     first-found e =
         record {
           column = column;

@@ -1,7 +1,7 @@
 // The calls of the shelf daemon, for C: numbers and byte slices come in, 0 or the number of a refusal goes back. `c/shelf.h`
 // documents them. Each is thin over a proved function of a crate below, and refuses bad numbers and lengths itself.
-mod check;
-mod records;
+pub mod check;
+pub mod records;
 
 use coding::encode::encode;
 use fold::fold;

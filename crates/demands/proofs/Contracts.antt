@@ -13,10 +13,15 @@ use borrow.Fn.World.{ArgsD, ResD}
 use denote.Triple.Clauses.{AtExit}
 use denote.Ref.{now}
 use Rattle.demands.specs.Calls.{Encodes, Mends, Folds, PlanRefuses, PlanColumns, PlanBytes, PlanSpans, Column, Reads, Writes, MendsRecord, Prints}
+use Rattle.demands.specs.Calls.{Checks, ReadsRecord, WritesRecord}
 use Rattle.shelf.proofs.shelf_encode as encode
 use Rattle.shelf.proofs.shelf_encode.Statement as encode-statement
 use Rattle.shelf.proofs.shelf_encode.Met as encode-met
 use Rattle.shelf.proofs.shelf_encode.Reads as encode-reads
+use Rattle.shelf.proofs.check.shelf_check as check
+use Rattle.shelf.proofs.check.shelf_check.Statement as check-statement
+use Rattle.shelf.proofs.check.shelf_check.Met as check-met
+use Rattle.shelf.proofs.check.shelf_check.Reads as check-reads
 use Rattle.shelf.proofs.shelf_mend as mend
 use Rattle.shelf.proofs.shelf_mend.Statement as mend-statement
 use Rattle.shelf.proofs.shelf_mend.Met as mend-met
@@ -52,6 +57,14 @@ use Rattle.writing.proofs.write_record as write
 use Rattle.writing.proofs.write_record.Statement as write-statement
 use Rattle.writing.proofs.write_record.Met as write-met
 use Rattle.writing.proofs.write_record.Reads as write-reads
+use Rattle.shelf.proofs.records.shelf_read_record as read-record
+use Rattle.shelf.proofs.records.shelf_read_record.Statement as read-record-statement
+use Rattle.shelf.proofs.records.shelf_read_record.Met as read-record-met
+use Rattle.shelf.proofs.records.shelf_read_record.Reads as read-record-reads
+use Rattle.shelf.proofs.records.shelf_write_record as write-record
+use Rattle.shelf.proofs.records.shelf_write_record.Statement as write-record-statement
+use Rattle.shelf.proofs.records.shelf_write_record.Met as write-record-met
+use Rattle.shelf.proofs.records.shelf_write_record.Reads as write-record-reads
 use Rattle.answer.proofs.mended.mend_record as mend-record
 use Rattle.answer.proofs.mended.mend_record.Statement as mend-record-statement
 use Rattle.answer.proofs.mended.mend_record.Met as mend-record-met
@@ -67,6 +80,7 @@ use Rattle.answer.proofs.answer.Reads as answer-reads
 abbrev pub AllMet : Type 1 → Type 2
 AllMet M =
     encode-statement.statement M
+    × check-statement.statement M
     × mend-statement.statement M
     × fold-statement.statement M
     × plan-refusal-statement.statement M
@@ -76,12 +90,15 @@ AllMet M =
     × column-statement.statement M
     × read-statement.statement M
     × write-statement.statement M
+    × read-record-statement.statement M
+    × write-record-statement.statement M
     × mend-record-statement.statement M
     × answer-statement.statement M
 
 pub all-met : {M : Type 1} → AllMet M
 all-met = (
   encode-met.met,
+  check-met.met,
   mend-met.met,
   fold-met.met,
   plan-refusal-met.met,
@@ -91,6 +108,8 @@ all-met = (
   column-met.met,
   read-met.met,
   write-met.met,
+  read-record-met.met,
+  write-record-met.met,
   mend-record-met.met,
   answer-met.met,
 )
@@ -100,6 +119,9 @@ all-met = (
 module _ {M : Type 1} (𝓤 : URA M) (H : Heap 𝓤) (A : Atoms 𝓤) (mem : Memory → SProp 𝓤) (run : Routine → Fun 𝓤) where
   pub encode-asks-nothing : (κs : Lfts 2) (a : ArgsD encode.signature κs) → encode.clauses 𝓤 H A mem run κs a .requires tt ≡ emp 𝓤
   encode-asks-nothing κs a = refl
+
+  pub check-asks-nothing : (κs : Lfts 4) (a : ArgsD check.signature κs) → check.clauses 𝓤 H A mem run κs a .requires tt ≡ emp 𝓤
+  check-asks-nothing κs a = refl
 
   pub mend-asks-nothing : (κs : Lfts 2) (a : ArgsD mend.signature κs) → mend.clauses 𝓤 H A mem run κs a .requires tt ≡ emp 𝓤
   mend-asks-nothing κs a = refl
@@ -128,6 +150,12 @@ module _ {M : Type 1} (𝓤 : URA M) (H : Heap 𝓤) (A : Atoms 𝓤) (mem : Mem
   pub write-asks-nothing : (κs : Lfts 3) (a : ArgsD write.signature κs) → write.clauses 𝓤 H A mem run κs a .requires tt ≡ emp 𝓤
   write-asks-nothing κs a = refl
 
+  pub read-record-asks-nothing : (κs : Lfts 4) (a : ArgsD read-record.signature κs) → read-record.clauses 𝓤 H A mem run κs a .requires tt ≡ emp 𝓤
+  read-record-asks-nothing κs a = refl
+
+  pub write-record-asks-nothing : (κs : Lfts 4) (a : ArgsD write-record.signature κs) → write-record.clauses 𝓤 H A mem run κs a .requires tt ≡ emp 𝓤
+  write-record-asks-nothing κs a = refl
+
   pub mend-record-asks-nothing : (κs : Lfts 3) (a : ArgsD mend-record.signature κs) → mend-record.clauses 𝓤 H A mem run κs a .requires tt ≡ emp 𝓤
   mend-record-asks-nothing κs a = refl
 
@@ -140,6 +168,12 @@ pub encode-promises : (κs : Lfts 2) (a : ArgsD encode.signature κs) (v : ResD 
     → encode-reads.Post κs a v s
     ≡ Encodes (a .0) (a .1 .0) (a .1 .1 .0) (a .1 .1 .1 .0) (now (a .1 .1 .1 .1 .0)) (now (a .1 .1 .1 .1 .1 .0)) v (now (s .1 .1 .1 .1 .1 .0))
 encode-promises κs a v s = refl
+
+pub check-promises : (κs : Lfts 4) (a : ArgsD check.signature κs) (v : ResD check.signature κs) (s : AtExit check.ended κs)
+    → check-reads.Post κs a v s
+    ≡ Checks (a .0) (a .1 .0) (a .1 .1 .0) (a .1 .1 .1 .0) (now (a .1 .1 .1 .1 .0)) (now (a .1 .1 .1 .1 .1 .0)) (now (a .1 .1 .1 .1 .1 .1 .0))
+    (now (a .1 .1 .1 .1 .1 .1 .1 .0)) v (now (s .1 .1 .1 .1 .1 .1 .0)) (now (s .1 .1 .1 .1 .1 .1 .1 .0))
+check-promises κs a v s = refl
 
 pub mend-promises : (κs : Lfts 2) (a : ArgsD mend.signature κs) (v : ResD mend.signature κs) (s : AtExit mend.ended κs)
     → mend-reads.Post κs a v s
@@ -174,6 +208,17 @@ read-promises κs a v s = refl
 pub write-promises : (κs : Lfts 3) (a : ArgsD write.signature κs) (v : ResD write.signature κs) (s : AtExit write.ended κs)
     → write-reads.Post κs a v s ≡ Writes (a .0) (now (a .1 .0)) (now (a .1 .1 .0)) (now (a .1 .1 .1 .0)) v (now (s .1 .1 .1 .0))
 write-promises κs a v s = refl
+
+pub read-record-promises : (κs : Lfts 4) (a : ArgsD read-record.signature κs) (v : ResD read-record.signature κs) (s : AtExit read-record.ended κs)
+    → read-record-reads.Post κs a v s
+    ≡ ReadsRecord (now (a .0)) (now (a .1 .0)) (now (a .1 .1 .0)) (now (a .1 .1 .1 .0)) v (now (s .1 .0)) (now (s .1 .1 .0)) (now (s .1 .1 .1 .0))
+read-record-promises κs a v s = refl
+
+pub write-record-promises : (κs : Lfts 4) (a : ArgsD write-record.signature κs) (v : ResD write-record.signature κs) (s : AtExit write-record.ended κs)
+    → write-record-reads.Post κs a v s
+    ≡ WritesRecord (a .0) (a .1 .0) (a .1 .1 .0) (a .1 .1 .1 .0) (now (a .1 .1 .1 .1 .0)) (now (a .1 .1 .1 .1 .1 .0)) (now (a .1 .1 .1 .1 .1 .1 .0))
+    (now (a .1 .1 .1 .1 .1 .1 .1 .0)) v (now (s .1 .1 .1 .1 .1 .1 .0)) (now (s .1 .1 .1 .1 .1 .1 .1 .0))
+write-record-promises κs a v s = refl
 
 pub mend-record-promises : (κs : Lfts 3) (a : ArgsD mend-record.signature κs) (v : ResD mend-record.signature κs) (s : AtExit mend-record.ended κs)
     → mend-record-reads.Post κs a v s ≡ MendsRecord (now (a .0)) (now (a .1 .0)) (now (a .1 .1 .0)) v (now (s .1 .0)) (now (s .1 .1 .0))

@@ -22,6 +22,7 @@ use Rattle.stripe.specs.Shape.{shapeRefusal, mostRows, columns, stripeLength}
 use Rattle.stripe.specs.Stripe.{byPoints, across, rowAt, checkSum, parityByte, parity, dataOf, parityOf, Codeword, Ascending, Agree, plainRuns}
 use Rattle.stripe.specs.Column.{lentRefusal}
 use Rattle.coding.specs.Encode.{encoded}
+use Rattle.checking.specs.Check.{firstWrong, FirstDisagreement}
 use Rattle.lost.specs.Positions.{positions}
 use Rattle.mending.specs.Mend.{mendRefusal}
 use Rattle.plan.specs.declared.Span.{Span}
@@ -33,14 +34,17 @@ use Rattle.writing.specs.declared.Written.{Written}
 use Rattle.record.specs.Layout.{recordOf, survivors, restored}
 use Rattle.writing.specs.Writing.{LaidOut}
 use Rattle.record.specs.Reading.{shapeRead, firstOf, unless, countOf, lostListed, columnsFilled, positionsFilled, stripeRefusal, contentRefusal, readRefusal}
+use Rattle.record.specs.Reading.{gotOf}
 use Rattle.writing.specs.Writing.{writeRefusal}
 use Rattle.answer.specs.declared.mended.Answer.{Answer}
 use Rattle.answer.specs.Answer.{described}
 use Rattle.text.specs.Text.{textRoom}
 use Rattle.shelf.specs.Shelf.{shapeOf, spansRefusal, spansFilled}
+use Rattle.shelf.specs.Records.{readNumber, numbersOf}
 use Rattle.demands.specs.Calls.{Names, Encodes, Mends, Folds, PlanRefuses, PlanColumns, PlanBytes, PlanSpans, Column, Reads, Writes, MendsRecord, Prints}
 use Rattle.demands.specs.Calls.{encodeTable, mendTable, planTable, foldTable, spansTable, readTable, writeTable, RecordJudged, mendedAnswer}
 use Rattle.demands.specs.Calls.{refusedAnswer, textWith}
+use Rattle.demands.specs.Calls.{Checks, ReadsRecord, WritesRecord, checkTable, readRecordTable}
 use Rattle.stripe.proofs.Allowed.{allowed, few-by-rows, many-by-points, points-fit, prepared-by-rows}
 use Rattle.stripe.proofs.Places.{parity-at, parity-below, parity-from, plain-parity}
 use Rattle.stripe.proofs.Codewords.{codeword-checks, encoded-codeword}
@@ -63,6 +67,9 @@ use Rattle.demands.proofs.Runs.{in-run}
 use Rattle.demands.proofs.Sums.{points-here, from-parity, new-sums}
 use Rattle.demands.proofs.Named.{names-parity, parity-named}
 use Rattle.demands.proofs.Tables.{encode-table, mend-table, plan-table, fold-table, spans-table, read-table, write-table}
+use Rattle.demands.proofs.Tables.{check-table, read-record-table}
+use Rattle.demands.proofs.Checked.{both-stay, first-left, codeword-0, other-8}
+use Rattle.demands.proofs.Recorded.{lent-read, as-read, number-read, numbers-read}
 
 -- ---- Demand 1
 -- "Every entry point takes all numbers and bytes as they come, ends, and answers or refuses exactly as document 01's table and order say. A refusal
@@ -84,6 +91,19 @@ module _ (k r t l : ℕ) where
   demand-1-encode ds ps v ps′ p = (
     p .0 ∙ encode-table asked (length ds) (length ps),
     λ h. p .1 ∙ left (lentRefusal asked (length ds) (length ps)) (parity asked ds) ps (λ z. h (p .0 ∙ z)),
+  )
+
+  -- the check: with 8 the two numbers are the first parity column and place that disagree, with any other answer they stay
+  pub demand-1-check : (ds ps : List ℕ) (x y v x′ y′ : ℕ) → Checks k r t l ds ps x y v x′ y′
+      → (v ≡ firstOf (checkTable asked ds ps))
+      × ((v ≡ 8 → FirstDisagreement asked ds ps x′ y′)
+      × ((v ≡ 8 → ⊥) → (x′ ≡ x) × (y′ ≡ y)))
+  demand-1-check ds ps x y v x′ y′ p = (
+    p .0 ∙ check-table asked ds ps,
+    (
+      λ e. first-left asked ds ps x y x′ y′ (p .1 .0) (p .1 .1) (sym (p .0) ∙ e),
+      λ h. let stay = both-stay (firstWrong asked ds ps) x y (λ e. h (p .0 ∙ e)) in (p .1 .0 ∙ stay .0, p .1 .1 ∙ stay .1),
+    ),
   )
 
   -- mending: 8 comes last, and demand 2 says when
@@ -176,6 +196,25 @@ demand-1-write s xs es out v out′ p =
     let number : v .number ≡ refusal = written-number s xs es out v out′ p in
     (number ∙ write-table s xs es (length out), λ h. p .1 ∙ left refusal _ out (λ z. h (number ∙ z)))
 
+-- the same for C; the five numbers and the record's length are written with 0 alone
+pub demand-1-read-record : (bs xs es ns : List ℕ) (v : ℕ) (xs′ es′ ns′ : List ℕ) → ReadsRecord bs xs es ns v xs′ es′ ns′
+    → (v ≡ firstOf (readRecordTable bs (length xs) (length es) (length ns))) × ((v ≡ 0 → ⊥) → (xs′ ≡ xs) × ((es′ ≡ es) × (ns′ ≡ ns)))
+demand-1-read-record bs xs es ns v xs′ es′ ns′ p =
+    let number = readNumber bs xs es ns in (
+      p .0 ∙ read-record-table bs xs es ns,
+      λ h.
+          let refused : number ≡ 0 → ⊥ = λ z. h (p .0 ∙ z) in
+          (p .1 .0 ∙ left number _ xs refused, (p .1 .1 .0 ∙ left number _ es refused, p .1 .1 .1 ∙ left number _ ns refused)),
+    )
+
+pub demand-1-write-record : (k r t l : ℕ) (xs es out : List ℕ) (n v : ℕ) (out′ : List ℕ) (n′ : ℕ) → WritesRecord k r t l xs es out n v out′ n′
+    → (v ≡ firstOf (writeTable (shapeOf k r t l) xs es (length out))) × ((v ≡ 0 → ⊥) → (out′ ≡ out) × (n′ ≡ n))
+demand-1-write-record k r t l xs es out n v out′ n′ p =
+    let refusal = writeRefusal (shapeOf k r t l) xs es (length out) in (
+      p .0 ∙ write-table (shapeOf k r t l) xs es (length out),
+      λ h. (p .1 .0 ∙ left refusal _ out (λ z. h (p .0 ∙ z)), p .1 .1 ∙ left refusal _ n (λ z. h (p .0 ∙ z))),
+    )
+
 -- A record mended: the number is the first of reading's table, else 7, 8 or 0 as the stripe read is mended (`RecordJudged`). With 0 the shape and the
 -- number of lost columns are reported, and the mended stripe and the lost positions stand at the fronts of the buffer and the list; what follows
 -- stays. A refusal reports zeros and leaves both.
@@ -253,6 +292,15 @@ pub demand-2-codeword : (k r t l : ℕ) (ds ps : List ℕ) (v : ℕ) (ps′ : Li
 demand-2-codeword k r t l ds ps v ps′ b p z =
     subst (λ (qs : List ℕ). Codeword (shapeOf k r t l) (ds ++ qs)) (sym (demand-2-parity k r t l ds ps v ps′ p z))
     (encoded-codeword (shapeOf k r t l) ds b (lent (shapeOf k r t l) (length ds) (length ps) (sym (p .0) ∙ z) .data-long))
+
+-- Where numbers and lengths are in order the check answers 0 for a codeword and 8 for any other stripe; elsewhere it answers neither.
+pub demand-2-check : (k r t l : ℕ) (ds ps : List ℕ) (x y v x′ y′ : ℕ) → Bytes ds → Bytes ps → Checks k r t l ds ps x y v x′ y′
+    → ((v ≡ 0) ↔ ((firstOf (encodeTable (shapeOf k r t l) (length ds) (length ps)) ≡ 0) × Codeword (shapeOf k r t l) (ds ++ ps)))
+    × ((v ≡ 8) ↔ ((firstOf (encodeTable (shapeOf k r t l) (length ds) (length ps)) ≡ 0) × (Codeword (shapeOf k r t l) (ds ++ ps) → ⊥)))
+demand-2-check k r t l ds ps x y v x′ y′ bd bp p =
+    let zero = codeword-0 (shapeOf k r t l) ds ps bd bp in
+    let eight = other-8 (shapeOf k r t l) ds ps bd bp in
+    ((λ e. zero .0 (sym (p .0) ∙ e), λ w. p .0 ∙ zero .1 w), (λ e. eight .0 (sym (p .0) ∙ e), λ w. p .0 ∙ eight .1 w))
 
 -- In a plain stripe with r up to 3 parity column i holds at each place row i of the data bytes there: the sum over c of g^(c*i) times the byte of
 -- column c.
@@ -429,6 +477,41 @@ demand-2-record-written s xs es out v out′ p z =
     let refusal = writeRefusal s xs es (length out) in
     let none : refusal ≡ 0 = sym (written-number s xs es out v out′ p) ∙ z in
     (ap (λ (g : Written). g .length) (p .0 ∙ done refusal _ _ none), p .1 ∙ done refusal _ out none)
+
+-- The same of the calls for C. Reading wants room for five numbers too, and puts k, r, t, L and how many columns are lost there.
+pub demand-2-read-record-accepted : (bs xs es ns : List ℕ) (v : ℕ) (xs′ es′ ns′ : List ℕ) → Bytes bs → ReadsRecord bs xs es ns v xs′ es′ ns′
+    → (v ≡ 0) ↔ ((length ns ≡ 5) × (LaidOut bs × ((length bs ≤ 65536) × ((length xs ≡ 65536) × (length es ≡ 258)))))
+demand-2-read-record-accepted bs xs es ns v xs′ es′ ns′ b p = (
+  λ z. let five = lent-read bs xs es ns (sym (p .0) ∙ z) .0 in (five, accepted five .0 (sym (number five) ∙ z)),
+  λ w. number (w .0) ∙ accepted (w .0) .1 (w .1),
+)
+  where
+    got : Got
+    got = gotOf bs (length xs) (length es)
+
+    number : length ns ≡ 5 → v ≡ got .number
+    number five = number-read bs xs es ns five v xs′ es′ ns′ p
+
+    accepted : length ns ≡ 5 → (got .number ≡ 0) ↔ (LaidOut bs × ((length bs ≤ 65536) × ((length xs ≡ 65536) × (length es ≡ 258))))
+    accepted five = demand-2-record-accepted bs xs es got xs′ es′ b (as-read bs xs es ns five v xs′ es′ ns′ p)
+
+pub demand-2-read-record : (bs xs es ns : List ℕ) (v : ℕ) (xs′ es′ ns′ : List ℕ) → ReadsRecord bs xs es ns v xs′ es′ ns′ → v ≡ 0 → (w : LaidOut bs)
+    → (ns′ ≡ numbersOf (w .shape) (length (w .lost)))
+    × ((es′ ≡ over es 0 (w .lost))
+    × (Agree (w .shape) (w .lost) (w .stripe) xs′
+    × (xs′ ≡ restored (w .shape .l) (w .lost) 0 (columns (w .shape)) (survivors (w .shape .l) (w .lost) 0 (columns (w .shape)) (w .stripe)) xs)))
+demand-2-read-record bs xs es ns v xs′ es′ ns′ p z w =
+    let lent = lent-read bs xs es ns (sym (p .0) ∙ z) in
+    let reads = as-read bs xs es ns (lent .0) v xs′ es′ ns′ p in
+    let number = number-read bs xs es ns (lent .0) v xs′ es′ ns′ p in
+    let told = demand-2-record-read bs xs es _ xs′ es′ reads (sym number ∙ z) (lent .1) w in
+    (numbers-read bs xs es ns (lent .0) v xs′ es′ ns′ p z ∙ ap₂ numbersOf (told .0) (told .1 .0), told .1 .1)
+
+pub demand-2-write-record : (k r t l : ℕ) (xs es out : List ℕ) (n v : ℕ) (out′ : List ℕ) (n′ : ℕ) → WritesRecord k r t l xs es out n v out′ n′ → v ≡ 0
+    → (n′ ≡ length (recordOf (shapeOf k r t l) es xs)) × (out′ ≡ over out 0 (recordOf (shapeOf k r t l) es xs))
+demand-2-write-record k r t l xs es out n v out′ n′ p z =
+    let refusal = writeRefusal (shapeOf k r t l) xs es (length out) in
+    (p .1 .1 ∙ done refusal _ n (sym (p .0) ∙ z), p .1 .0 ∙ done refusal _ out (sym (p .0) ∙ z))
 
 -- ---- Demand 3
 -- "A fold that is handed only the bytes its plan names gives the very parity of all the data in order; the plan's volume is the published cost; a

@@ -2,6 +2,8 @@ pub mod Contracts
 pub mod Tables
 pub mod Named
 pub mod Answers
+pub mod Checked
+pub mod Recorded
 pub mod Mended
 pub mod Runs
 pub mod Sums

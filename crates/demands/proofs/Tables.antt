@@ -2,14 +2,18 @@
 use Prim.Native.Nat.{ℕ, zero, suc, _-_, _*_, _%_}
 use mathlib.Core.Path.{_≡_, refl, sym, ap, _∙_}
 use mathlib.Core.Bool.{Bool, true, false, cond, _&&_}
+use mathlib.Core.Logic.{_⊎_, inl, inr}
 use mathlib.Core.List.{List, [], _∷_, _++_}
 use borrow.Author.Tests.{leb-true, leb-false, lt-ltb, le-ltb}
 use lib.Dec.{eqb, eqb·suc-zero, leb, ltb}
 use lib.ListN.{length}
 use Rattle.stripe.specs.declared.Shape.{Shape}
 use Rattle.stripe.specs.Shape.{shapeRefusal, lengthAllowed, columns, dataLength, parityLength, stripeLength}
-use Rattle.stripe.specs.Stripe.{ascending}
+use Rattle.stripe.specs.Stripe.{parity, ascending}
 use Rattle.stripe.specs.Column.{lentRefusal}
+use Rattle.checking.specs.Compare.{agree}
+use Rattle.checking.specs.Check.{numberOf, firstWrong}
+use Rattle.checking.proofs.Where.{wrong-refused, wrong-nowhere, wrong-at}
 use Rattle.lost.specs.Positions.{positions, listRefusal}
 use Rattle.mending.specs.Mend.{mendRefusal}
 use Rattle.plan.specs.Plan.{stripesAllowed, newAllowed, foldRefusal, columnsRead, bytesRead}
@@ -20,7 +24,11 @@ use Rattle.record.specs.Reading.{shapeRead, firstOf, unless, firstNumber, secon
 use Rattle.record.specs.Reading.{stripeRefusal, headRefusal, positionsRefusal, columnsRefusal, contentRefusal, readRefusal}
 use Rattle.writing.specs.Writing.{writeRefusal}
 use Rattle.shelf.specs.Shelf.{spansRefusal}
+use Rattle.shelf.specs.Records.{readNumber}
+use Rattle.field.proofs.Cases.{zero-or-not}
 use Rattle.demands.specs.Calls.{numbersAllowed, encodeTable, mendTable, planTable, foldTable, spansTable, writeTable, readTable}
+use Rattle.demands.specs.Calls.{checkTable, readRecordTable}
+use Rattle.demands.proofs.Answers.{done, left}
 
 -- ---- tables joined
 
@@ -59,6 +67,11 @@ one true x = refl
 one false zero = refl
 one false (suc x) = refl
 
+before : (a : Bool) (x y : ℕ) (zs : List ℕ) → y ≡ firstOf zs → cond a y (suc x) ≡ firstOf (unless a (suc x) ∷ zs)
+unfolding firstOf
+before true x y zs e = e
+before false x y zs e = refl
+
 two : (a b : Bool) (x y : ℕ) → cond a (cond b 0 y) (suc x) ≡ firstOf (unless a (suc x) ∷ unless b y ∷ [])
 unfolding firstOf
 two true b x y = one b y
@@ -92,6 +105,30 @@ module _ (s : Shape) where
   encode-table d p =
       let fit = eqb d (dataLength s) && eqb p (parityLength s) in
       after (shapeTable s) (unless fit 5 ∷ []) (shapeRefusal s) (cond fit 0 5) (shape-table s) (one fit 5)
+
+  -- a stripe that is not refused agrees with its parity or not
+  check-number : (ds ps : List ℕ)
+      → numberOf (firstWrong s ds ps)
+      ≡ cond (eqb (lentRefusal s (length ds) (length ps)) 0) (cond (agree ps (parity s ds)) 0 8) (lentRefusal s (length ds) (length ps))
+  check-number ds ps = go (zero-or-not refusal) (agree ps (parity s ds)) refl
+    where
+      refusal : ℕ
+      refusal = lentRefusal s (length ds) (length ps)
+
+      told : ℕ
+      told = cond (agree ps (parity s ds)) 0 8
+
+      go : (refusal ≡ 0) ⊎ (refusal ≡ 0 → ⊥) → (b : Bool) → agree ps (parity s ds) ≡ b → numberOf (firstWrong s ds ps) ≡ cond (eqb refusal 0) told refusal
+      go (inr n) b h = ap numberOf (wrong-refused s ds ps n) ∙ sym (left refusal told refusal n)
+      go (inl z) true h = ap numberOf (wrong-nowhere s ds ps z h) ∙ sym (done refusal told refusal z ∙ ap (λ (c : Bool). cond c 0 8) h)
+      go (inl z) false h = ap numberOf (wrong-at s ds ps z h) ∙ sym (done refusal told refusal z ∙ ap (λ (c : Bool). cond c 0 8) h)
+
+  pub check-table : (ds ps : List ℕ) → numberOf (firstWrong s ds ps) ≡ firstOf (checkTable s ds ps)
+  check-table ds ps =
+      let exact = agree ps (parity s ds) in
+      let refusal = lentRefusal s (length ds) (length ps) in
+      check-number ds ps
+      ∙ after (encodeTable s (length ds) (length ps)) (unless exact 8 ∷ []) refusal (cond exact 0 8) (encode-table (length ds) (length ps)) (one exact 8)
 
   pub mend-table : (d : ℕ) (ls : List ℕ) → mendRefusal s d ls ≡ firstOf (mendTable s d ls)
   unfolding mendRefusal listRefusal
@@ -170,3 +207,7 @@ module _ (bs : List ℕ) where
   read-table a b =
       alike (unless (leb (length bs) 65536) 5 ∷ unless (eqb a 65536) 5 ∷ unless (eqb b 258) 5 ∷ []) (contentRefusal bs ∷ []) _
       (alone (contentRefusal bs) ∙ content-table)
+
+  pub read-record-table : (xs es ns : List ℕ) → readNumber bs xs es ns ≡ firstOf (readRecordTable bs (length xs) (length es) (length ns))
+  unfolding readNumber
+  read-record-table xs es ns = before (eqb (length ns) 5) 4 (readRefusal bs (length xs) (length es)) _ (read-table (length xs) (length es))

@@ -4,15 +4,17 @@ use Prim.Native.Nat.{ℕ, _+_, _-_, _*_, _%_, _<_, _≤_}
 use mathlib.Core.Path.{_≡_}
 use mathlib.Core.Bool.{Bool, cond, _&&_}
 use mathlib.Core.Logic.{_⊎_}
-use mathlib.Core.List.{List, [], _∷_}
+use mathlib.Core.List.{List, [], _∷_, _++_}
 use lib.Dec.{leb, eqb}
 use lib.ListN.{length}
 use Rattle.stripe.specs.declared.Shape.{Shape}
 use Rattle.stripe.specs.Shape.{dataAllowed, parityAllowed, pointsAllowed, markAllowed, lengthAllowed, noShape}
 use Rattle.stripe.specs.Shape.{columns, dataLength, parityLength, stripeLength}
-use Rattle.stripe.specs.Stripe.{ascending}
+use Rattle.stripe.specs.Stripe.{parity, ascending}
 use Rattle.stripe.specs.Column.{columnOf}
 use Rattle.coding.specs.Encode.{encodeRefusal, encoded}
+use Rattle.checking.specs.Compare.{agree}
+use Rattle.checking.specs.Check.{numberOf, firstWrong}
 use Rattle.lost.specs.Positions.{positions}
 use Rattle.mending.specs.Mend.{Restored, Mended}
 use Rattle.plan.specs.declared.Span.{Span}
@@ -29,12 +31,20 @@ use Rattle.answer.specs.declared.mended.Answer.{Answer}
 use Rattle.answer.specs.Answer.{described, Answered, Printed}
 use Rattle.text.specs.Text.{stripeText, refusalText}
 use Rattle.shelf.specs.Shelf.{shapeOf, spansRefusal, spansFilled}
+use Rattle.shelf.specs.Check.{columnLeft, placeLeft}
+use Rattle.shelf.specs.Records.{readNumber, stripeLeft, lostLeft, numbersLeft, writeNumber, lengthLeft}
 
 -- ---- the calls
 
 -- `shelf_encode` with k, r, t, L, the data ds and a parity ps: it answers v and leaves the parity ps′
 abbrev pub Encodes : ℕ → ℕ → ℕ → ℕ → List ℕ → List ℕ → ℕ → List ℕ → Type 0
 Encodes k r t l ds ps v ps′ = (v ≡ encodeRefusal (shapeOf k r t l) (length ds) (length ps)) × (ps′ ≡ encoded (shapeOf k r t l) ds ps)
+
+-- `shelf_check` with the data ds, the parity ps and the numbers x and y: it answers v and leaves the numbers x′ and y′
+abbrev pub Checks : ℕ → ℕ → ℕ → ℕ → List ℕ → List ℕ → ℕ → ℕ → ℕ → ℕ → ℕ → Type 0
+Checks k r t l ds ps x y v x′ y′ =
+    (v ≡ numberOf (firstWrong (shapeOf k r t l) ds ps))
+    × ((x′ ≡ columnLeft (firstWrong (shapeOf k r t l) ds ps) x) × (y′ ≡ placeLeft (firstWrong (shapeOf k r t l) ds ps) y))
 
 -- `shelf_mend` with the stripe xs and the lost positions ls, as pairs of bytes: it answers v and leaves the stripe xs′
 abbrev pub Mends : ℕ → ℕ → ℕ → ℕ → List ℕ → List ℕ → ℕ → List ℕ → Type 0
@@ -72,6 +82,18 @@ Reads bs xs es v xs′ es′ =
 abbrev pub Writes : Shape → List ℕ → List ℕ → List ℕ → Written → List ℕ → Type 0
 Writes s xs es out v out′ = (v ≡ writtenOf s xs es (length out)) × (out′ ≡ outWritten s xs es out)
 
+-- `shelf_read_record` with the record bs, the buffer xs, the list es and the numbers ns: it answers v and leaves xs′, es′ and ns′
+abbrev pub ReadsRecord : List ℕ → List ℕ → List ℕ → List ℕ → ℕ → List ℕ → List ℕ → List ℕ → Type 0
+ReadsRecord bs xs es ns v xs′ es′ ns′ =
+    (v ≡ readNumber bs xs es ns)
+    × ((xs′ ≡ stripeLeft bs xs es ns) × ((es′ ≡ lostLeft bs xs es ns) × (ns′ ≡ numbersLeft bs xs es ns)))
+
+-- `shelf_write_record` with the stripe xs, the lost positions es, the output out and the number n: it answers v and leaves out′ and n′
+abbrev pub WritesRecord : ℕ → ℕ → ℕ → ℕ → List ℕ → List ℕ → List ℕ → ℕ → ℕ → List ℕ → ℕ → Type 0
+WritesRecord k r t l xs es out n v out′ n′ =
+    (v ≡ writeNumber (shapeOf k r t l) xs es out)
+    × ((out′ ≡ outWritten (shapeOf k r t l) xs es out) × (n′ ≡ lengthLeft (shapeOf k r t l) xs es out n))
+
 -- `mend_record` with the record bs, the buffer xs and the list es: it answers v and leaves xs′ and es′
 abbrev pub MendsRecord : List ℕ → List ℕ → List ℕ → Answer → List ℕ → List ℕ → Type 0
 MendsRecord bs xs es v xs′ es′ = Answered bs xs es v xs′ es′
@@ -93,6 +115,10 @@ encodeTable s d p =
     ∷ unless (lengthAllowed (s .t) (s .l)) 2
     ∷ unless (eqb d (dataLength s) && eqb p (parityLength s)) 5
     ∷ []
+
+-- the check of the data ds and the parity ps: encoding's table, then 8 where the parity is not that of the data
+abbrev pub checkTable : Shape → List ℕ → List ℕ → List ℕ
+checkTable s ds ps = encodeTable s (length ds) (length ps) ++ (unless (agree ps (parity s ds)) 8 ∷ [])
 
 -- mending, lent d bytes and the list ls; what is 8 depends on the bytes
 abbrev pub mendTable : Shape → ℕ → List ℕ → List ℕ
@@ -153,6 +179,10 @@ readTable bs a b =
     ∷ positionsRefusal bs (columns (shapeRead bs)) (countOf bs) 0 (nextOf (countNumber bs))
     ∷ columnsRefusal (length bs - columnsStart bs) ((columns (shapeRead bs) - countOf bs) * shapeRead bs .l)
     ∷ []
+
+-- reading a record for C, with room for c numbers: 5 for these too, first
+abbrev pub readRecordTable : List ℕ → ℕ → ℕ → ℕ → List ℕ
+readRecordTable bs a b c = unless (eqb c 5) 5 ∷ readTable bs a b
 
 -- ---- a record mended
 

@@ -14,4 +14,5 @@ pub mod Summing
 pub mod Offsets
 pub mod Verdict
 pub mod ByPoints
+pub mod WideRows
 pub mod Unique

@@ -35,10 +35,10 @@ stays-weighted first w xs ys e = onto-is _ _ xs ys (λ x y. sym (ap (λ (b : Boo
 -- one step: what stays of the run, and the n bytes from a on
 module _ (first : Bool) (w : ℕ) (xs d ys : List ℕ) (a n : ℕ) (long : length xs ≡ n) (fits : a + n ≤ length d)
     (is : ys ≡ onto (λ (x y : ℕ). stays first w x ⊕ y) xs (take (a + n - a) (drop a d))) where
-  step-long : length ys ≡ length xs
+  pub step-long : length ys ≡ length xs
   step-long = ap length is ∙ onto-length (λ (x y : ℕ). stays first w x ⊕ y) xs _
 
-  step-at : (e : ℕ) → e < length xs → getD ys e 0 ≡ stays first w (getD xs e 0) ⊕ getD d (a + e) 0
+  pub step-at : (e : ℕ) → e < length xs → getD ys e 0 ≡ stays first w (getD xs e 0) ⊕ getD d (a + e) 0
   step-at e h =
       ap (λ (l : List ℕ). getD l e 0) is
       ∙ onto-at (λ (x y : ℕ). stays first w x ⊕ y) xs (take (a + n - a) (drop a d)) e h (omega (arith, part-length d a n fits))

@@ -15,7 +15,7 @@ use Rattle.stripe.specs.declared.Shape.{Shape}
 use Rattle.stripe.specs.Shape.{shapeRefusal}
 use Rattle.stripe.specs.Stripe.{across, runLength, byPoints, plainRuns}
 use Rattle.constants.specs.Constants.{encodingOf, foldingOf}
-use Rattle.plan.specs.declared.Kind.the-variants.{C}
+use Rattle.plan.specs.declared.Kind.the-variants.{A, C}
 use Rattle.plan.specs.Plan.{foldRefusal, newAllowed, kindOf, bytesRead}
 use Rattle.fold.specs.declared.shares.Share.{Share}
 use Rattle.fold.specs.declared.shares.Share.the-variants.{Read, Row, Both}
@@ -86,3 +86,25 @@ shareOf s j b =
 unfoldable pub taken : Shape → ℕ → Bool → List ℕ → List ℕ → List ℕ
 taken s f first xs ys =
     tabulate (f * s .l) (λ i. stays first (i / s .l * s .k) (getD ys i 0) ⊕ share (kindOf s f) s xs (i / s .l) (i % s .l))
+
+-- a fold by rows, of kind A: of n stripes of an allowed shape, lent a bytes to read and b to fill
+pub record ReadsPlain (s : Shape) (n f a b : ℕ) : Type 0 where
+  pub passed : foldRefusal s n f ≡ 0
+  pub rows : byPoints s ≡ false
+  pub kind : kindOf s f ≡ A
+  pub read-long : a ≡ bytesRead s n f
+  pub parity-long : b ≡ f * s .l
+
+-- ---- a wide row from n columns that start at `from`, each `stride` after the one before
+
+-- the columns, of `count` bytes each, lie within a bytes
+pub record InColumns (a from stride n count : ℕ) : Type 0 where
+  pub some : 1 ≤ n
+  pub most : n ≤ 255
+  pub places-some : 1 ≤ count
+  pub places-most : count ≤ 4096
+  pub inside : (i : ℕ) → i < n → from + i * stride + count ≤ a
+
+-- the row: at each place the sum over the columns i of g^(i*e) times the byte there
+unfoldable pub columnsRow : ℕ → List ℕ → ℕ → ℕ → ℕ → ℕ → List ℕ
+columnsRow e xs from stride n count = tabulate count (λ p. row e (across xs stride p from n))

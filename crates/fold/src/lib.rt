@@ -14,6 +14,7 @@ use stripe::MOST_ROWS;
 use stripe::Shape;
 
 mod by_points;
+mod plain;
 mod runs;
 mod shares;
 mod stripes;
@@ -60,6 +61,15 @@ fn fill(s: Shape, stripes: usize, f: usize, read: &[u8], parity: &mut [u8])
         Kind::A => {
             if MOST_ROWS < s.r {
                 by_points::fill_by_points(s, stripes, read, parity);
+                return;
+            }
+            let e = plain::last_exponent(s, f);
+            if plain::beats_products(e, stripes, s.l) {
+                plain::fill_plain(s, stripes, f, read, parity);
+                return;
+            }
+            if plain::beats_shifts(e, stripes, s.l) {
+                plain::fill_plain(s, stripes, f, read, parity);
                 return;
             }
             stripes::fill_parity(s, stripes, f, read, parity);

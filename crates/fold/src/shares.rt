@@ -13,7 +13,7 @@ pub enum Share {
 }
 
 // What stays of the run, nothing or g^w times it, and at each place the byte of the second from `at` on.
-fn take_bytes(acc: &mut [u8], first: bool, w: usize, d: &[u8], at: usize)
+pub(crate) fn take_bytes(acc: &mut [u8], first: bool, w: usize, d: &[u8], at: usize)
     requires { ⌜ at + length (now acc) ≤ length (now d) ⌝ }
     ensures { λ _. ⌜ now (acc .exit) ≡ stepped first w (now (acc .entry)) (now (d .entry)) at ⌝ }
 {

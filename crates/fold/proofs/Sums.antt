@@ -88,7 +88,7 @@ module _ (xs ys : List ℕ) (l p k m : ℕ) (e : length xs ≡ k * l) (hp : p < 
           let w : k + (i - k) ≡ i = omega arith in
           subst (λ (x : ℕ). getD (across (xs ++ ys) l p 0 (k + m)) x 0 ≡ getD (across xs l p 0 k ++ across ys l p 0 m) x 0) w (in-second (i - k) (omega arith))
 
-across-none : (xs : List ℕ) (l p o m : ℕ) → m ≡ 0 → across xs l p o m ≡ []
+pub across-none : (xs : List ℕ) (l p o m : ℕ) → m ≡ 0 → across xs l p o m ≡ []
 unfolding across
 across-none xs l p o zero e = refl
 across-none xs l p o (suc m) e = absurd (omega arith)

@@ -1,7 +1,7 @@
 -- Kind A by rows, a wide row at a time: a column more is a step of Horner's rule; all columns at once are a row of weights times them; and these rows are
 -- the fold's answer.
 use mathlib.Core.Path.{_≡_, refl, sym, ap, ap₂, _∙_, subst}
-use mathlib.Core.Bool.{Bool, true, false, cond}
+use mathlib.Core.Bool.{Bool, cond}
 use mathlib.Core.List.{List, [], _∷_, map}
 use mathlib.Core.Logic.{_⊎_, inl, inr}
 use Prim.Native.Nat.{ℕ, zero, suc, _+_, _-_, _*_, _%_, _<_, _≤_}
@@ -21,10 +21,9 @@ use Rattle.field.proofs.Bytes.{tabulate-length, tabulate-at}
 use Rattle.field.proofs.Cases.{below-or-from}
 use Rattle.points.specs.Lagrange.{dot}
 use Rattle.points.specs.Folding.{parts}
-use Rattle.lanes.specs.Lanes.{onto}
 use Rattle.lanes.proofs.Parts.{part-length, back-length, back-inside, back-outside}
 use Rattle.stripe.specs.declared.Shape.{Shape}
-use Rattle.stripe.specs.Stripe.{across, byPoints}
+use Rattle.stripe.specs.Stripe.{across}
 use Rattle.stripe.proofs.Places.{column-inside, by-places, across-length, place-lt}
 use Rattle.matrix.specs.Matrix.{rowOf, bytesAt, applied, becomes}
 use Rattle.matrix.proofs.Shape.{Lengths, fit-lengths, applied-length, applied-place, becomes-fits}
@@ -32,13 +31,14 @@ use Rattle.constants.proofs.Points.{tabulated}
 use Rattle.constants.proofs.Applied.{bytes-in-order, order-small}
 use Rattle.plan.specs.declared.Kind.{Kind}
 use Rattle.plan.specs.declared.Kind.the-variants.{A}
-use Rattle.plan.specs.Plan.{foldRefusal, kindOf, bytesEach, bytesRead}
+use Rattle.plan.specs.Plan.{kindOf, bytesEach}
 use Rattle.plan.proofs.Foldable.{Foldable, foldable}
 use Rattle.plan.proofs.Costs.{bytes-read}
-use Rattle.fold.specs.Fold.{share, foldByte, foldOf}
-use Rattle.fold.specs.Shares.{ReadsPlain, InColumns, columnsRow, stays}
+use Rattle.fold.specs.Fold.{foldByte, foldOf}
+use Rattle.fold.specs.Shares.{ReadsPlain, InColumns, columnsRow, stays, stepped}
 use Rattle.fold.proofs.Laws.{share-a, fold-sum, fold-at, fold-length}
 use Rattle.fold.proofs.Stepped.{step-long, step-at}
+use Rattle.fold.proofs.Sums.{across-none}
 
 -- ---- a row, by its places
 
@@ -57,11 +57,6 @@ module _ (e : ℕ) (xs : List ℕ) (from stride n count : ℕ) where
   row-place p h = tabulate-at count _ p h
 
 -- ---- a column at a time
-
-across-none : (xs : List ℕ) (l p o m : ℕ) → m ≡ 0 → across xs l p o m ≡ []
-unfolding across
-across-none xs l p o zero h = refl
-across-none xs l p o (suc m) h = absurd (omega arith)
 
 across-next : (xs : List ℕ) (l p o m n : ℕ) → n ≡ suc m → across xs l p o n ≡ getD xs (o + p) 0 ∷ across xs l p (o + l) m
 unfolding across
@@ -85,7 +80,7 @@ module _ (e : ℕ) (xs : List ℕ) (bytes : Bytes xs) (from stride n count : ℕ
       (λ p l. w .at (omega arith) p l ∙ ap₂ (λ (o m : ℕ). row e (across xs stride p o m)) first all)
 
   module _ (i : ℕ) (h : i < n) (ys zs : List ℕ) (w : RowFrom e xs from stride n count (i + 1) ys) (inside : from + i * stride + length ys ≤ length xs)
-      (is : zs ≡ onto (λ (x y : ℕ). stays (eqb i (n - 1)) e x ⊕ y) ys (take (from + i * stride + length ys - (from + i * stride)) (drop (from + i * stride) xs))) where
+      (is : zs ≡ stepped (eqb i (n - 1)) e ys xs (from + i * stride)) where
     abbrev own : ℕ → ℕ
     own p = getD xs (from + i * stride + p) 0
 
@@ -290,8 +285,3 @@ module _ (s : Shape) (n f : ℕ) (xs ps : List ℕ) (reads : ReadsPlain s n f (l
           places-most = let m = able .shape .length-most in omega arith;
           inside = λ i l. omega (arith, column-inside j f (s .l) h, column-inside i n (f * s .l) l, all-long);
         }
-
-pub reads-plain : (s : Shape) (n f a b : ℕ) → foldRefusal s n f ≡ 0 → byPoints s ≡ false → kindOf s f ≡ A → a ≡ bytesRead s n f → b ≡ f * s .l
-    → ReadsPlain s n f a b
-reads-plain s n f a b passed rows kind read-long parity-long =
-    record { passed = passed; rows = rows; kind = kind; read-long = read-long; parity-long = parity-long }

@@ -1,6 +1,6 @@
 -- How a fold by rows that reads parity, kind A or B, is computed: stripe by stripe, from the last to the first, and run by run of the
--- wide parity. What a stripe adds to a run is stored in the bytes read of it, in the rows of its data, or in both. A fold by points, kind A
--- or C, takes all columns read at once.
+-- wide parity. What a stripe adds to a run is stored in the bytes read of it, in the rows of its data, or in both. Many stripes of
+-- kind A go a wide row at a time. A fold by points, kind A or C, takes all columns read at once.
 use Prim.Native.Nat.{ℕ, _+_, _-_, _*_, _/_, _%_, _<_, _≤_}
 use mathlib.Core.Path.{_≡_}
 use mathlib.Core.Bool.{Bool, true, false, cond}

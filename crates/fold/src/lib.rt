@@ -50,8 +50,8 @@ pub fn fold(s: Shape, stripes: usize, f: usize, read: &[u8], parity: &mut [u8]) 
 }
 
 // The parity columns of the wide stripe. Kind C reads all the data, so it is the encoding of the wide stripe. The stripes are by points
-// where they have more than MOST_ROWS parity columns. What takes much stack is called from two arms each: so it has a frame of its own,
-// and no way pays for the others.
+// where they have more than MOST_ROWS parity columns. Many stripes of kind A go row by row, where the last row gains by it. What takes
+// stack is called from two arms each: so it has a frame of its own, and no way pays for the others.
 fn fill(s: Shape, stripes: usize, f: usize, read: &[u8], parity: &mut [u8])
     requires { ⌜ (foldRefusal s stripes f ≡ 0) × ((length (now read) ≡ bytesRead s stripes f) × (length (now parity) ≡ f * s .l)) ⌝ }
     ensures { λ _. ⌜ now (parity .exit) ≡ foldOf s stripes f (now (read .entry)) ⌝ }

@@ -13,7 +13,7 @@ use field::Gf;
 use matrix::apply;
 use stripe::Shape;
 
-// From how many bytes of a column on a row is made from all columns at once.
+// From how many bytes on a row is made from all columns at once: as many as `apply` wants to form one row without sums of groups.
 const LONG: usize = 256;
 
 // The exponent of the last row, which has the highest.

@@ -16,7 +16,6 @@ use Rattle.fold.specs.Shares.{ReadsPlain}
 use Rattle.fold.proofs.Filling.{reads-parity, marked-by-rows}
 use Rattle.fold.proofs.Encoded.{encoded-fold}
 use Rattle.fold.proofs.ByPoints.{points-new, reads-columns}
-use Rattle.fold.proofs.WideRows.{reads-plain}
 use borrow.Author.Needs.{needs}
 use Rattle.fold.proofs.fill.Statement.{statement}
 use Rattle.fold.proofs.fill.Tie as tie
@@ -62,7 +61,7 @@ plain c =
     let told = c .before .before in
     let z = told .before .before .before .before .before in
     let is = sym (told .before .before .kind-of .ensures) ∙ told .enum-told .given .1 in
-    reads-plain _ _ _ _ _ (z .pre .0) (few-by-rows _ (c .if1 .left)) is (z .pre .1 .0) (z .pre .1 .1)
+    record { passed = z .pre .0; rows = few-by-rows _ (c .if1 .left); kind = is; read-long = z .pre .1 .0; parity-long = z .pre .1 .1 }
 
 last-exponent-requires : tie.Need-last-exponent-requires
 last-exponent-requires c κs =

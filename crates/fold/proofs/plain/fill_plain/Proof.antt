@@ -1,5 +1,5 @@
 -- `fill_plain` meets its contract: the first j rows are there.
-use Prim.Native.Nat.{_+_, _-_, _*_, _<_, _≤_}
+use Prim.Native.Nat.{_+_, _-_, _*_, _≤_}
 use mathlib.Core.Path.{_≡_}
 use native.Mathlib.Omega.{arith}
 use lib.ListN.{length, take, drop}
@@ -55,7 +55,10 @@ fill-row-requires : tie.Need-fill-row-requires Inv-loop μ-loop
 fill-row-requires c κs =
     let w = c .before in
     let z = w .before .before .before .before in
-    (exponent-small _ _ _ (now (z .args .d)) (now (z .args .parity)) (z .pre) _ (w .loop-test .taken), row-lies _ _ _ (now (z .args .d)) (now (z .args .parity)) (z .pre) _ (w .loop-test .taken) _ (length-here w))
+    let d = now (z .args .d) in
+    let parity = now (z .args .parity) in
+    let h = w .loop-test .taken in
+    (exponent-small _ _ _ d parity (z .pre) _ h, row-lies _ _ _ d parity (z .pre) _ h _ (length-here w))
 
 add-j : tie.Need-add-j Inv-loop μ-loop
 add-j c = search needs
@@ -73,7 +76,9 @@ same-length : tie.Need-same-length Inv-loop μ-loop
 same-length c = let z = c .before .before .before .before in omega (arith, c .before .loop .inv .1 .long, z .pre .parity-long)
 
 returns : tie.Need-returns Inv-loop μ-loop
-returns c = let z = c .before .before .before .before in rows-done _ _ _ (now (z .args .d)) (now (z .args .parity)) (z .pre) _ _ (c .loop-test .left) (c .before .loop .inv .1)
+returns c =
+    let z = c .before .before .before .before in
+    rows-done _ _ _ (now (z .args .d)) (now (z .args .parity)) (z .pre) _ _ (c .loop-test .left) (c .before .loop .inv .1)
 
 pub fill-plain-spec : {M : Type 1} → statement M
 fill-plain-spec =

@@ -12,7 +12,7 @@ use borrow.Author.Tests.{lt-ltb, le-ltb}
 use Rattle.field.specs.Field.{_⊕_, _⊗_, doubled, shifted, inverseOf, polynomial}
 use Rattle.field.specs.Euclid.{taken, Rest, shorter, longer}
 use Rattle.field.proofs.Xor.{add-shr}
-use Rattle.field.proofs.Below.{both, both-left, both-right, below}
+use Rattle.field.proofs.Below.{both, both-left, both-right, all, below}
 use Rattle.field.proofs.Mul.{inverse-unique}
 
 abbrev zeros : ℕ → ℕ
@@ -109,10 +109,15 @@ Runs a u v = (n : ℕ) × T (runs n a u v)
 starts-ok : ℕ → Bool
 starts-ok a = runs 8 (suc a) (polynomial * 65536) (suc a * 65536 + 1)
 
-pub runs-start : (a : ℕ) → 0 < a → a < 256 → Runs a (polynomial * 65536) (a * 65536 + 1)
+-- the test is computed here alone: in a lemma with cases it would be computed once more for them
+starts : T (all starts-ok 255)
 unfolding starts-ok runs left taken leadingZeros _⊗_ shifted doubled _⊕_
+starts = tt
+
+pub runs-start : (a : ℕ) → 0 < a → a < 256 → Runs a (polynomial * 65536) (a * 65536 + 1)
+unfolding starts-ok
 runs-start zero p h = absurd (omega arith)
-runs-start (suc a) p h = (8, below starts-ok 255 tt a (omega arith))
+runs-start (suc a) p h = (8, below starts-ok 255 starts a (omega arith))
 
 pub runs-turn : (a u v w : ℕ) → 131072 ≤ v → Runs a u v → Rest v u w → Runs a v w
 unfolding runs

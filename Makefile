@@ -89,7 +89,7 @@ install: all $(PAGES)/done
 	$(INSTALL) -m 644 $(PAGES)/shelf.3 '$(DESTDIR)$(MANDIR)/man3/'
 	$(INSTALL) -m 644 LICENSE docs/CODES.md '$(DESTDIR)$(DOCDIR)/'
 	$(INSTALL) -m 644 docs/pictures/*.svg '$(DESTDIR)$(DOCDIR)/pictures/'
-	$(INSTALL) -m 644 c/fold_month.c c/fold_files.c '$(DESTDIR)$(DOCDIR)/examples/'
+	$(INSTALL) -m 644 c/fold_month.c c/fold_halves.c c/fold_files.c '$(DESTDIR)$(DOCDIR)/examples/'
 
 uninstall:
 	rm -f '$(DESTDIR)$(BINDIR)/balogwisu-mend' '$(DESTDIR)$(BINDIR)/balogwisu-mends' '$(DESTDIR)$(LIBDIR)/libshelf.a' \

@@ -44,7 +44,7 @@
  *   - no two buffers of a call overlap, and nobody else writes them during the call;
  *   - a pointer beside a length of 0 may be anything, NULL too, and is not followed.
  *
- * An example with columns of one byte (c/fold_month.c and c/fold_files.c are longer ones, which run):
+ * An example with columns of one byte (c/fold_month.c, c/fold_halves.c and c/fold_files.c are longer ones, which run):
  *
  *   uint8_t a[4] = {1, 2}, b[4] = {3, 4};                     two stripes of 2 + 2 columns
  *   shelf_encode(2, 2, 0, 1, a, 2, a + 2, 2);                 SHELF_OK: a is 01 02 03 05
@@ -76,7 +76,7 @@ extern "C" {
 #endif
 
 /* The version of this header and of the library that it came with. */
-#define SHELF_VERSION "0.3.0"
+#define SHELF_VERSION "0.3.1"
 
 /* The limits, for the sizes of a caller's buffers. */
 enum {
@@ -255,6 +255,13 @@ uint32_t shelf_plan_spans(uint64_t k, uint64_t r, uint64_t t, uint64_t l, uint64
  * For any bytes, with r above 3, sum s of the new parity columns is, at each place and for every s below r, the sum over the stripes x,
  * from 0, of g^(x*k*s) times what the stripe adds: sum s of its parity columns where the plan reads these, and row s of its data where
  * it reads data columns. There is one such parity and no other.
+ *
+ * Folding in two sittings: n1 stripes at a time into half-wide ones of n1 * k + f1 columns, and later n2 of these, as plain stripes,
+ * into the wide one with f2 parity columns; if t is not 0, f2 = t. Where both are allowed, so is the fold of all n1 * n2 stripes at
+ * once to f2. If the stripes held their own parity, the bytes are the same. For any bytes they are the same if neither sitting reads
+ * data columns alone, or if the fold at once does. In the other cases beware: a sitting that reads data columns alone (its f is above
+ * the r or the k of its stripes) leaves the parity of the data, whatever the parity columns held. What is stale, and would show after
+ * the fold at once, is then hidden, and the wide stripe is a codeword. Check each stripe before its first sitting.
  *
  * Returns 0: all f * l parity bytes are written. Returns 1, 2, 3, 4 or 5, in this order: nothing is written.
  *

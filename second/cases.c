@@ -3,6 +3,7 @@
 #include "covered.h"
 #include "random.h"
 #include "records.h"
+#include "sittings.h"
 
 #include <inttypes.h>
 #include <stdio.h>
@@ -673,6 +674,7 @@ int main(int argc, char **argv)
     for (uint64_t i = 0; i < calls; i++)
         one_case();
     differences += compare_records(calls / 20);
+    differences += compare_sittings(calls / 400);
     uint64_t missing = table(calls);
     if (MAX_PARITY > 3)
         printf("small shapes, r from 4 to 6: %" PRIu64 " calls\n", small);

@@ -1,6 +1,7 @@
 /* Counts of what the calls covered, and the table of them. */
 #include "covered.h"
 #include "records.h"
+#include "sittings.h"
 
 #include <inttypes.h>
 #include <stdio.h>
@@ -216,11 +217,38 @@ static void table_of_checks(void)
     printf("\n");
 }
 
+/* Two sittings: of which kinds, and what was refused. */
+static void table_of_sittings(void)
+{
+    static const struct floor step[STEPS] = {
+        {"both allowed:", 700}, {"one refused:", 1000}, {"at once refused, as f2 is not t:", 50}, {"as wide as may be:", 10}, {"1 wider, refused:", 100},
+    };
+    uint64_t rarest = ~(uint64_t)0;
+    char what[32];
+    for (int high = 0; high < (MAX_PARITY > 3 ? 2 : 1); high++) {
+        printf("two sittings%s, kinds of both/at once:", high ? ", r above 3" : "");
+        for (int n = 0; n < (high ? KINDS_BY_CHECKS : KINDS); n++)
+            show((sprintf(what, "%s:", kinds_of_sittings[n]), what), sittings_tried[high][n], 35);
+        printf("\n");
+    }
+    for (int r = 1; r <= MAX_PARITY; r++)
+        rarest = sittings_of_r[r] < rarest ? sittings_of_r[r] : rarest;
+    printf("two sittings, every r:");
+    show("the rarest:", rarest, 3);
+    printf("\na stale byte that one fold shows and two sittings hide:");
+    show("", sittings_hid, 150);
+    printf("\ntwo sittings, refusals:");
+    for (int n = 0; n < STEPS; n++)
+        show(step[n].name, sittings_steps[n], step[n].least);
+    printf("\n");
+}
+
 uint64_t table(uint64_t of_calls)
 {
     calls = of_calls;
     table_of_all();
     if (MAX_PARITY > 3)
         table_of_checks();
+    table_of_sittings();
     return missing;
 }

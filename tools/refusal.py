@@ -18,6 +18,33 @@ def first_error(log):
     return next((l for l in found if 'was not admitted' not in l), found[0] if found else '')
 
 
+def each_of(edit):
+    """The functions that an edit makes wrong each by itself, none of which calls another: its first line starts 'Each of F, G: '. Else nothing."""
+    named = re.match(r'Each of ([\w:, ]+): ', open(edit, encoding='utf-8').readline())
+    return [name.strip() for name in named.group(1).split(',')] if named else []
+
+
+def of_function(line, name, copy):
+    """Whether a line of a log is about this function: it names a place in its proof or, where the proof is made for it, in its code."""
+    *folders, last = name.split('::')
+    if re.search('/'.join(['proofs', *folders, rf'\+?{last}/Proof\.antt:']), line):          # '+' where functions call each other
+        return True
+    place = re.search(r'\b(src/\S+\.rt):(\d+):', line)
+    if not place:
+        return False
+    head = open(f'{copy}/{place.group(1)}', encoding='utf-8').read().split('\n')[:int(place.group(2))]
+    within = [m.group(1) for l in head for m in [re.search(r'^\s*(?:pub(?:\(crate\))? )?(?:extern "C" )?fn (\w+)', l)] if m]
+    owner = [m.group(1) for l in head for m in [re.search(r'^(?:impl (\w+)|\})', l)] if m]
+    return [last] == within[-1:] and (not (owner and owner[-1]) or owner[-1] in folders)
+
+
+def errors(edit, log, copy):
+    """The errors that count, of the wrong program in the folder `copy`: the first, or where the edit is about several functions the first of each,
+    nothing where there is none."""
+    lines = log.split('\n')
+    return [first_error('\n'.join(l for l in lines if of_function(l, name, copy))) for name in each_of(edit)] or [first_error(log)]
+
+
 def kind(error):
     """'fact', 'bound' or 'shape'; nothing where there is no error."""
     if SHAPE.search(error):

@@ -51,7 +51,7 @@ use Rattle.stripe.proofs.Codewords.{codeword-checks, encoded-codeword}
 use Rattle.equations.proofs.Codes.{determined, completed}
 use Rattle.stripe.proofs.Lent.{lent, column-empty, column-refused, column-past}
 use Rattle.mending.proofs.Outcome.{mended-one, counts-for-nothing}
-use Rattle.plan.proofs.Foldable.{IsA, IsB, IsC, foldable}
+use Rattle.plan.proofs.Foldable.{foldable, prepared-b}
 use Rattle.plan.proofs.Counted.{columns-counted, bytes-counted}
 use Rattle.plan.proofs.Costs.{plain-columns, plain-bytes, prepared-bytes}
 use Rattle.fold.proofs.Cut.{cut-length}
@@ -635,12 +635,9 @@ demand-3-cost-plain k r l n f planned v w p q =
 -- Prepared stripes: the reading part of 002, formula (1), in columns of L bytes, both sides times f so that no fraction is left.
 pub demand-3-cost-prepared : (k r t l n f : ℕ) → PlanRefuses k r t l n f 0 → (t ≡ 0 → ⊥) → (w : ℕ) → PlanBytes k r t l n f w
     → w * f ≡ bandwidthNeeded n k r f * l
-demand-3-cost-prepared k r t l n f planned prepared w q = go (foldable (shapeOf k r t l) n f (sym planned) .kinds)
-  where
-    go : IsA (shapeOf k r t l) f ⊎ (IsB (shapeOf k r t l) f ⊎ IsC (shapeOf k r t l) f) → w * f ≡ bandwidthNeeded n k r f * l
-    go (inl a) = absurd (prepared (a .plain))
-    go (inr (inl b)) = ap (λ (x : ℕ). x * f) q ∙ prepared-bytes (shapeOf k r t l) n f (sym planned) b
-    go (inr (inr c)) = absurd (prepared (c .plain))
+demand-3-cost-prepared k r t l n f planned prepared w q =
+    let b = prepared-b (shapeOf k r t l) n f (sym planned) prepared in
+    ap (λ (x : ℕ). x * f) q ∙ prepared-bytes (shapeOf k r t l) n f (sym planned) b
 
 -- The conversion bandwidth is the bytes read, which are reported, and so it is the published cost: of plain stripes and of prepared ones.
 pub demand-3-bandwidth : (k r t l n f : ℕ) → PlanRefuses k r t l n f 0 → (w : ℕ) → PlanBytes k r t l n f w

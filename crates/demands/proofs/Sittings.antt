@@ -15,6 +15,7 @@ use lib.Seq.{ext-getD}
 use Rattle.field.specs.Bytes.{over}
 use Rattle.field.proofs.Over.{over-taken}
 use Rattle.points.specs.Folding.{joined}
+use Rattle.points.proofs.Joined.{getD-mapped}
 use Rattle.stripe.specs.declared.Shape.{Shape}
 use Rattle.stripe.specs.Shape.{mostRows, stripeLength}
 use Rattle.stripe.proofs.Allowed.{many-by-points}
@@ -27,7 +28,6 @@ use Rattle.fold.specs.Fold.{foldOf, foldVerdict, foldFilled, cutOut, wideData, 
 use Rattle.fold.proofs.Cut.{cut-length}
 use Rattle.shelf.specs.Shelf.{shapeOf, spansRefusal, spansFilled}
 use Rattle.sittings.specs.Sittings.{Groups, Codewords, halves, inTwo, atOnce, byDefinition}
-use Rattle.sittings.proofs.Grouped.{getD-mapped}
 use Rattle.sittings.proofs.Steps.{once-passed, first-passed, second-passed}
 use Rattle.sittings.proofs.One.{halves-count, halves-long, stripes-count, stripes-long}
 use Rattle.sittings.proofs.Same.{same, a-a, points-same, by-data, codewords-two, codewords-same}

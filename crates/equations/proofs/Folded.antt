@@ -1,6 +1,6 @@
 -- Folding whole stripes from their parity alone, place by place.
 use mathlib.Core.Path.{_≡_, refl, sym, ap, ap₂, _∙_, subst}
-use mathlib.Core.List.{List, [], _∷_, _++_, map, map-append}
+use mathlib.Core.List.{List, [], _∷_, _++_, map}
 use Prim.Native.Nat.{ℕ, zero, suc, _+_, _*_, _<_, _≤_}
 use native.Mathlib.Nat.{zero-mul, suc-mul, add-mul, mul-assoc, not-suc-le-zero, le-of-suc-le-suc}
 use native.Mathlib.Omega.{arith}
@@ -15,7 +15,7 @@ use Rattle.stripe.proofs.Places.{across-length, across-take}
 use Rattle.points.specs.Points.{checkSum}
 use Rattle.points.specs.Folding.{foldParity, Stripe, Long, Sound, Each, joined, parities}
 use Rattle.points.specs.Folding.{wideData as wideBytes, wideStripe as wideWord}
-use Rattle.points.proofs.Joined.{joined-length}
+use Rattle.points.proofs.Joined.{joined-length, map-joined}
 use Rattle.points.proofs.Folded.{each-at, fold-length, fold-bytes, wide-sum, wide-sound, sound-shows-at}
 use Rattle.points.proofs.Folded.{two-sittings as sittings-at}
 use Rattle.equations.specs.Whole.{sumOf, Codeword, parity, foldColumns, wideData, wideStripe}
@@ -205,11 +205,6 @@ module _ (k r l : ℕ) where
         })
 
 -- ---- two sittings
-
-map-joined : (f : List ℕ → List ℕ) (psss : List (List (List ℕ))) → map f (joined psss) ≡ joined (map (map f) psss)
-unfolding joined
-map-joined f [] = refl
-map-joined f (pss ∷ psss) = map-append f pss (joined psss) ∙ ap (λ (qss : List (List ℕ)). map f pss ++ qss) (map-joined f psss)
 
 groups : (f : List ℕ → List ℕ) (n : ℕ) (psss : List (List (List ℕ))) → Each (λ pss. length pss ≡ n) psss → Each (λ pss. length pss ≡ n) (map (map f) psss)
 unfolding Each

@@ -22,7 +22,7 @@ use Rattle.plan.specs.declared.Kind.the-variants.{A, B, C}
 use Rattle.plan.specs.Plan.{kindOf, foldRefusal, columnSpans, kindSpans, spansFrom, plan, bytesEach, bytesRead}
 use Rattle.fold.specs.Fold.{partBytes, named, cutOut, readOf}
 use Rattle.points.specs.Folding.{parts, joined}
-use Rattle.points.proofs.Joined.{joined-length, parts-joined}
+use Rattle.points.proofs.Joined.{joined-length, parts-joined, getD-mapped}
 use Rattle.plan.proofs.Foldable.{IsA, IsB, IsC, Foldable, foldable}
 use Rattle.fold.proofs.Prepared.{run-is, run-whole, each-is}
 use Rattle.plan.proofs.Counted.{runs-sum}
@@ -201,13 +201,6 @@ read-length s f zs a (inr (inl h)) long =
 read-length s f zs a (inr (inr h)) long =
     subst (λ (κ : Kind). length (readOf κ s f zs) ≡ bytesEach κ s f) (sym (h .kind)) (c-length s zs long f)
 
--- ---- what is read of each stripe
-
-pub getD-read : (g : List ℕ → List ℕ) (zss : List (List ℕ)) (l : ℕ) → l < length zss → getD (map g zss) l [] ≡ g (getD zss l [])
-getD-read g [] l h = absurd (not-suc-le-zero h)
-getD-read g (z ∷ zss) zero h = refl
-getD-read g (z ∷ zss) (suc l) h = getD-read g zss l (le-of-suc-le-suc h)
-
 -- ---- the plan's bytes of whole stripes
 
 module _ (s : Shape) (f : ℕ) (zss : List (List ℕ)) (passed : foldRefusal s (length zss) f ≡ 0)
@@ -226,7 +219,7 @@ module _ (s : Shape) (f : ℕ) (zss : List (List ℕ)) (passed : foldRefusal s (
   reads-long l h =
       let k : l < length zss = subst (λ (x : ℕ). l < x) (length-map zss (readOf (kindOf s f) s f)) h in
       let g : Foldable s (length zss) f = foldable s (length zss) f passed in
-      ap length (getD-read (readOf (kindOf s f) s f) zss l k) ∙ read-length s f (getD zss l []) (g .shape) (g .kinds) (long l k)
+      ap length (getD-mapped (readOf (kindOf s f) s f) [] [] zss l k) ∙ read-length s f (getD zss l []) (g .shape) (g .kinds) (long l k)
 
   -- the fold takes its input apart into what the plan names of each stripe
   pub cut-parts : parts (bytesEach (kindOf s f) s f) (length zss) (cutOut s zss (plan s (length zss) f)) ≡ reads

@@ -22,8 +22,8 @@ use Rattle.fold.specs.Fold.{share, foldByte, foldOf, wideData, cutOut, r
 use Rattle.points.specs.Folding.{joined}
 use Rattle.plan.proofs.Foldable.{Foldable, foldable, wide-by-points}
 use Rattle.fold.proofs.Laws.{fold-sum, fold-at}
-use Rattle.points.proofs.Joined.{joined-length}
-use Rattle.fold.proofs.Cut.{at-rest, cut-parts, getD-read}
+use Rattle.points.proofs.Joined.{joined-length, getD-mapped}
+use Rattle.fold.proofs.Cut.{at-rest, cut-parts}
 use Rattle.fold.proofs.Carried.{shared}
 use Rattle.fold.proofs.Sums.{map-sum, rows-joined}
 
@@ -58,7 +58,7 @@ module _ (s : Shape) (f : ℕ) (zss : List (List ℕ)) (passed : foldRefusal s (
   datas-long : (l : ℕ) → l < length (map (λ zs. dataOf s zs) zss) → length (getD (map (λ zs. dataOf s zs) zss) l []) ≡ s .k * s .l
   datas-long l h =
       let k : l < length zss = subst (λ (x : ℕ). l < x) (length-map zss (λ zs. dataOf s zs)) h in
-      ap length (getD-read (λ zs. dataOf s zs) zss l k) ∙ data-of-length s (getD zss l []) (long l k)
+      ap length (getD-mapped (λ zs. dataOf s zs) [] [] zss l k) ∙ data-of-length s (getD zss l []) (long l k)
 
   pub wide-data-length : length (wideData s zss) ≡ dataLength wide
   unfolding wideData

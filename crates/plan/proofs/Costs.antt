@@ -30,12 +30,6 @@ pub refused-bytes : (s : Shape) (n f : ℕ) → eqb (foldRefusal s n f) 0 ≡ fa
 unfolding bytesRead
 refused-bytes s n f e = ap (λ (b : Bool). cond b (n * bytesEach (kindOf s f) s f) 0) e
 
--- kind B's bytes are those of two parts: of each data column the runs from r on, and the parity columns whole
-pub parts-sum : (k r t q l : ℕ) → t * q ≡ l → k * ((t - r) * q) + r * l ≡ (r * t + k * (t - r)) * q
-parts-sum k r t q l e =
-    ap₂ _+_ (sym (mul-assoc k (t - r) q)) (sym (mul-assoc r t q ∙ ap (λ (x : ℕ). r * x) e))
-    ∙ sym (add-mul (k * (t - r)) (r * t) q) ∙ ap (λ (x : ℕ). x * q) (omega arith)
-
 -- ---- never more than all the data
 
 rest-sum : (k r t : ℕ) → r < t → k * (t - r) + k * r ≡ k * t

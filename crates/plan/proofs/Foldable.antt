@@ -236,6 +236,15 @@ module _ (s : Shape) (n f : ℕ) (passed : foldRefusal s n f ≡ 0) where
       ap₂ (λ (x y : Bool). x && y && true) (le-leb 1 (s .l) (a .length-some)) (le-leb (s .l) mostLength (a .length-most)) in
       ap₂ (λ (x y : Bool). cond (x && markAllowed (n * s .k) f 0) (cond y 0 2) 1) (ap₂ _&&_ (ap₂ _&&_ many wide-parity) wide-points) long
 
+-- a prepared stripe is folded by kind B alone
+pub prepared-b : (s : Shape) (n f : ℕ) → foldRefusal s n f ≡ 0 → (s .t ≡ 0 → ⊥) → IsB s f
+prepared-b s n f passed prepared = go (foldable s n f passed .kinds)
+  where
+    go : IsA s f ⊎ (IsB s f ⊎ IsC s f) → IsB s f
+    go (inl a) = absurd (prepared (a .plain))
+    go (inr (inl b)) = b
+    go (inr (inr c)) = absurd (prepared (c .plain))
+
 -- ---- runs
 
 -- the runs of a prepared stripe make up its columns

@@ -1,6 +1,6 @@
 -- Lists joined, and a list cut into parts: how long they are, and that the two undo each other.
 use mathlib.Core.Path.{_≡_, refl, sym, ap, ap₂, _∙_}
-use mathlib.Core.List.{List, [], _∷_, _++_, append-assoc}
+use mathlib.Core.List.{List, [], _∷_, _++_, map, map-append, append-assoc}
 use Prim.Native.Nat.{ℕ, zero, suc, _+_, _*_, _<_}
 use native.Mathlib.Nat.{zero-mul, suc-mul, add-comm, not-suc-le-zero, le-of-suc-le-suc}
 use native.Mathlib.Omega.{arith}
@@ -47,3 +47,15 @@ module _ {A : Type 0} where
   joined-parts m zero (x ∷ xs) e = absurd (omega arith)
   joined-parts m (suc n) xs e =
       ap (λ (y : List A). take m xs ++ y) (joined-parts m n (drop m xs) (length-drop m xs ∙ omega arith)) ∙ take-append-drop m xs
+
+-- ---- the same function on every element
+
+pub map-joined : {A B : Type 0} (u : A → B) (xss : List (List A)) → map u (joined xss) ≡ joined (map (λ xs. map u xs) xss)
+unfolding joined
+map-joined u [] = refl
+map-joined {B = B} u (xs ∷ xss) = map-append u xs (joined xss) ∙ ap (λ (ys : List B). map u xs ++ ys) (map-joined u xss)
+
+pub getD-mapped : {A B : Type 0} (u : A → B) (d : A) (e : B) (xs : List A) (i : ℕ) → i < length xs → getD (map u xs) i e ≡ u (getD xs i d)
+getD-mapped u d e [] i h = absurd (not-suc-le-zero h)
+getD-mapped u d e (x ∷ xs) zero h = refl
+getD-mapped u d e (x ∷ xs) (suc i) h = getD-mapped u d e xs i (le-of-suc-le-suc h)

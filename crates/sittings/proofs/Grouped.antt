@@ -2,8 +2,8 @@
 -- groups of their sums.
 use mathlib.Core.Path.{_≡_, refl, sym, ap, ap₂, _∙_}
 use mathlib.Core.List.{List, [], _∷_, _++_, map, map-append}
-use Prim.Native.Nat.{ℕ, zero, suc, _*_, _<_}
-use native.Mathlib.Nat.{mul-comm, not-suc-le-zero, le-of-suc-le-suc}
+use Prim.Native.Nat.{ℕ, suc, _*_, _<_}
+use native.Mathlib.Nat.{mul-comm}
 use native.Mathlib.Omega.{arith}
 use lib.ListN.{length, getD, length-map}
 use Rattle.field.specs.Field.{_⊕_, _⊗_, gpow}
@@ -64,15 +64,3 @@ all-rows i n w (g ∷ gs) h =
     ap (row i) (map-append w g (joined gs)) ∙ row-parts i (map w g) (map w (joined gs))
     ∙ ap₂ (λ (m x : ℕ). row i (map w g) ⊕ gpow (m * i) ⊗ x) (length-map g w ∙ h 0 (omega arith)) (all-rows i n w gs (λ x k. h (suc x) (omega arith)))
     ∙ sym (row-cons (n * i) (row i (map w g)) _ (row-lt i (map w g)))
-
--- ---- what is made of each
-
-pub getD-mapped : {A B : Type 0} (u : A → B) (d : A) (e : B) (xs : List A) (i : ℕ) → i < length xs → getD (map u xs) i e ≡ u (getD xs i d)
-getD-mapped u d e [] i h = absurd (not-suc-le-zero h)
-getD-mapped u d e (x ∷ xs) zero h = refl
-getD-mapped u d e (x ∷ xs) (suc i) h = getD-mapped u d e xs i (le-of-suc-le-suc h)
-
-pub map-joined : {A B : Type 0} (u : A → B) (xss : List (List A)) → map u (joined xss) ≡ joined (map (λ xs. map u xs) xss)
-unfolding joined
-map-joined u [] = refl
-map-joined {B = B} u (xs ∷ xss) = map-append u xs (joined xss) ∙ ap (λ (ys : List B). map u xs ++ ys) (map-joined u xss)

@@ -6,6 +6,7 @@ use Prim.Native.Nat.{ℕ, _*_, _<_}
 use lib.ListN.{length, getD, length-map}
 use Rattle.field.specs.Bytes.{Bytes}
 use Rattle.points.specs.Folding.{joined}
+use Rattle.points.proofs.Joined.{getD-mapped}
 use Rattle.points.proofs.Folded.{map-same-at}
 use Rattle.stripe.specs.declared.Shape.{Shape}
 use Rattle.stripe.specs.Shape.{stripeLength}
@@ -18,7 +19,7 @@ use Rattle.fold.proofs.Wide.{wide-data, wide-answer}
 use Rattle.fold.proofs.Encoded.{data-parity}
 use Rattle.fold.proofs.Shows.{wide-all, wide-length, folded-parity, folded-codeword}
 use Rattle.sittings.specs.Sittings.{Groups, Codewords, halves, inTwo, atOnce, byDefinition}
-use Rattle.sittings.proofs.Grouped.{every, all-count, all-data, getD-mapped}
+use Rattle.sittings.proofs.Grouped.{every, all-count, all-data}
 use Rattle.sittings.proofs.Steps.{shape-same}
 
 -- ---- one sitting

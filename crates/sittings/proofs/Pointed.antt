@@ -7,6 +7,7 @@ use Prim.Native.Nat.{ℕ, _*_, _<_, _≤_}
 use native.Mathlib.Omega.{arith}
 use lib.ListN.{length, getD, drop, length-map}
 use Rattle.points.specs.Folding.{Each, joined}
+use Rattle.points.proofs.Joined.{map-joined, getD-mapped}
 use Rattle.points.proofs.Folded.{each-from, map-same-at}
 use Rattle.stripe.specs.declared.Shape.{Shape}
 use Rattle.stripe.specs.Shape.{stripeLength}
@@ -20,7 +21,6 @@ use Rattle.fold.specs.Fold.{wideStripe}
 use Rattle.fold.proofs.Wide.{wide-answer}
 use Rattle.fold.proofs.Pointed.{answer-columns}
 use Rattle.sittings.specs.Sittings.{Groups, halves}
-use Rattle.sittings.proofs.Grouped.{getD-mapped, map-joined}
 use Rattle.sittings.proofs.Steps.{same-new}
 use Rattle.sittings.proofs.One.{folded, passed-all, halves-count, halves-long, stripes-count, stripes-long}
 

@@ -6,7 +6,7 @@ use Rattle.stripe.proofs.Allowed.{allowed}
 use Rattle.plan.specs.declared.Kind.{Kind}
 use Rattle.plan.specs.Plan.{bytesEach}
 use Rattle.plan.proofs.Foldable.{runs-whole}
-use Rattle.plan.proofs.Costs.{parts-sum}
+use Rattle.plan.proofs.Counted.{runs-sum}
 use Rattle.plan.proofs.Bounds.{fits, b-prepared, new-product, data-product, part-small, parts-product, parity-product}
 use Rattle.plan.proofs.Capped.{capped-is}
 use borrow.Author.Needs.{needs}
@@ -73,7 +73,7 @@ returns-2 c =
     (capped-is
     (s .k * ((s .t - s .r) * (s .l / s .t)) + s .r * s .l)
     (omega (arith, parts-product s (b .pre .0), parity-product s (b .pre .0))))
-    ∙ parts-sum (s .k) (s .r) (s .t) (s .l / s .t) (s .l) whole
+    ∙ runs-sum (s .k) (s .r) (s .t) (s .l / s .t) (s .l) whole
     ∙ sym (ap (λ (κ : Kind). bytesEach κ s (b .args .f)) of-kind)
 
 returns-3 : tie.Need-returns-3

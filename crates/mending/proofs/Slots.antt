@@ -304,6 +304,13 @@ module _ (b w : ℕ) (bs ws : List ℕ) (a d n : ℕ) (xs ys ap′ us out : List
           ∙ s .off i (λ v l k. subst (λ (z : ℕ). Outside z n i) (omega (arith, add-mul v 1 d)) (h (v + 1) (omega arith) (omega arith)))
           ∙ c .off i (λ v l k. h v (omega arith) k)
 
+-- a list but its first entry
+pub rest-long : (xs : List ℕ) → length xs - 1 ≡ length (take (length xs - 1) (drop 1 xs))
+rest-long xs = sym (ap length (rest xs 1) ∙ length-drop 1 xs)
+
+pub rest-most : (xs : List ℕ) (m : ℕ) → length xs ≤ suc m → length (take (length xs - 1) (drop 1 xs)) ≤ m
+rest-most xs m h = omega (arith, rest-long xs)
+
 -- no points, no values
 pub solved-none : (bs ws : List ℕ) (a d n : ℕ) (xs : List ℕ) → length bs ≡ 0 → Solved bs ws a d n xs xs
 solved-none bs ws a d n xs h = record { long = refl; at = λ q v hq hv. absurd (omega arith); off = λ i g. refl }
@@ -321,6 +328,16 @@ solved-turn (b ∷ bs) (w ∷ ws) a d n xs ys ap′ us out some e few wide c p s
     solved-step b w bs ws a d n xs ys ap′ us out (sym (suc-inj e)) (le-of-suc-le-suc few) wide c p
     (subst (λ (l : List ℕ). Solved l (take (length bs) ap′) (a + d) d n ys us) (take-all (length bs) bs (omega arith))
     (subst (λ (k : ℕ). Solved (take k bs) (take k ap′) (a + d) d n ys us) (less-one (length bs)) s))
+    f
+
+-- one point at most: there is nothing to clear, and there are no others
+pub solved-last : (bs ws : List ℕ) (a d n : ℕ) (xs out : List ℕ) → (length bs ≡ 0 → ⊥) → length ws ≡ length bs → length bs ≤ 1 → n ≤ d
+    → First ws a d n xs out → Solved bs ws a d n xs out
+solved-last bs ws a d n xs out some e one wide f =
+    solved-turn bs ws a d n xs xs (0 ∷ 0 ∷ 0 ∷ []) xs out some e (omega (arith, one)) wide
+    (record { long = refl; next = λ q v hq h. absurd (omega arith); off = λ i h. refl })
+    (record { long = refl; at = λ v h. absurd (omega arith) })
+    (solved-none _ _ _ _ _ _ (omega (arith, rest-long bs)))
     f
 
 -- ---- what the functions ask of each other
@@ -351,10 +368,6 @@ spaced-as e e′ a d n len len′ p q s =
 
 pub sources-as : (e e′ a b d n len : ℕ) → e ≡ e′ → Sources e a b d n len → Sources e′ a b d n len
 sources-as e e′ a b d n len p s = subst (λ (x : ℕ). Sources x a b d n len) p s
-
--- a list but its first entry
-pub rest-long : (xs : List ℕ) → length xs - 1 ≡ length (take (length xs - 1) (drop 1 xs))
-rest-long xs = sym (ap length (rest xs 1) ∙ length-drop 1 xs)
 
 pub some-of : (n : ℕ) → (n ≡ 0 → ⊥) → 0 < n
 some-of zero h = absurd (h refl)

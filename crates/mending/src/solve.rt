@@ -1,5 +1,6 @@
 // Sums of powers solved at the n places of slots together, in place: the first point is taken out of the sums, the others are solved,
-// and the first value is what the first sum lacks.
+// and the first value is what the first sum lacks. The others are fewer, so each number of points has a function of its own, and none
+// calls itself: that lets the compiler put them into their caller, which short columns gain most by.
 use crate::gather::gather;
 use crate::scalars::product;
 use field::Gf;
@@ -13,7 +14,7 @@ ghost use Rattle.field.specs.Field.{_⊕_, _⊗_};
 ghost use Rattle.mending.specs.Slots.{Spaced, Cleared, First, SetApart, Solved};
 ghost use Rattle.stripe.specs.Shape.{mostRows};
 
-// The values that have the sums, in place of the sums.
+// The values that have the sums, in place of the sums; at most MOST_ROWS.
 pub(crate) fn solve_slots(
     points: &[u8],
     weights: &[u8],
@@ -32,7 +33,36 @@ pub(crate) fn solve_slots(
     clear(points[0], e, slots, at, d, n);
     let w = set_apart(points, weights);
     let f = e - 1;
-    solve_slots(&points[1..], &w[..f], slots, at + d, d, n);
+    solve_two(&points[1..], &w[..f], slots, at + d, d, n);
+    first_value(weights, slots, at, d, n);
+}
+
+// The same, at most two.
+fn solve_two(points: &[u8], weights: &[u8], slots: &mut [u8], at: usize, d: usize, n: usize)
+    requires { ⌜ Spaced (length (now points)) at d n (length (now slots))
+        × ((length (now weights) ≡ length (now points)) × (length (now points) ≤ 2)) ⌝ }
+    ensures { λ _. ⌜ Solved (now (points .entry)) (now (weights .entry)) at d n (now (slots .entry)) (now (slots .exit)) ⌝ }
+{
+    let e = points.len();
+    if e == 0 {
+        return;
+    }
+    clear(points[0], e, slots, at, d, n);
+    let w = set_apart(points, weights);
+    let f = e - 1;
+    solve_one(&points[1..], &w[..f], slots, at + d, d, n);
+    first_value(weights, slots, at, d, n);
+}
+
+// The same, at most one.
+fn solve_one(points: &[u8], weights: &[u8], slots: &mut [u8], at: usize, d: usize, n: usize)
+    requires { ⌜ Spaced (length (now points)) at d n (length (now slots))
+        × ((length (now weights) ≡ length (now points)) × (length (now points) ≤ 1)) ⌝ }
+    ensures { λ _. ⌜ Solved (now (points .entry)) (now (weights .entry)) at d n (now (slots .entry)) (now (slots .exit)) ⌝ }
+{
+    if points.len() == 0 {
+        return;
+    }
     first_value(weights, slots, at, d, n);
 }
 

@@ -1,3 +1,4 @@
 pub mod Products
 pub mod Mixing
 pub mod Unique
+pub mod Halving

@@ -9,9 +9,6 @@ use lib.Dec.{leb, ltb}
 use lib.ListN.{length, getD, take, drop, replicate, length-drop, length-append, length-replicate, List·getD-append}
 use lib.Seq.{length-take-le, getD-take, getD-drop, getD-append-add, ext-getD}
 use borrow.Author.Tests.{ltb-true, ltb-false, leb-true, le-leb}
-use Rattle.field.specs.Field.{_⊕_, _⊗_}
-use Rattle.field.specs.Bytes.{Bytes}
-use Rattle.field.proofs.Mul.{one-mul}
 use Rattle.lanes.specs.Lanes.{onto}
 use borrow.Rule.Slice.PartMut.{putMid}
 use Rattle.products.specs.Within.{disjoint, within}
@@ -240,11 +237,3 @@ within-part {f} {a} {b} {m} {q} {xs} {ys} {zs} k h l t is =
 -- n places done are all of them
 pub within-done : {f : ℕ → ℕ → ℕ} {a b q : ℕ} {xs zs : List ℕ} (n : ℕ) → Disjoint a b n (length xs) → q ≡ n → Within f a b q xs zs → zs ≡ within f a b n xs
 within-done {f} {a} {b} {q} {xs} {zs} n h e t = within-same (subst (λ (m : ℕ). Within f a b m xs zs) e t) (within-places f a b n xs h)
-
--- by the factor 1 the bytes are taken as they are
-pub within-one : {a b n c : ℕ} {xs ys : List ℕ} → c ≡ 1 → Bytes xs → Within (λ (x y : ℕ). x ⊕ y) a b n xs ys
-    → Within (λ (x y : ℕ). x ⊕ c ⊗ y) a b n xs ys
-within-one {a} {b} {n} {c} {xs} {ys} ec bytes w = record { long = w .long; on = λ q l. w .on q l ∙ by-one _ _ (bytes (b + q)); off = w .off }
-  where
-    by-one : (x y : ℕ) → y < 256 → x ⊕ y ≡ x ⊕ c ⊗ y
-    by-one x y k = sym (ap (λ (z : ℕ). x ⊕ z ⊗ y) ec ∙ ap (λ (z : ℕ). x ⊕ z) (one-mul y k))

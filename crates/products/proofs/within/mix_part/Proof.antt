@@ -2,7 +2,10 @@
 use native.Mathlib.Omega.{arith}
 use borrow.Author.Needs.{needs}
 use Rattle.field.specs.Bytes.{Bytes}
-use Rattle.products.proofs.Mixing.{disjoint-is, within-same, within-places, within-block, within-one}
+use Prim.Native.Nat.{_+_, _-_}
+use mathlib.Core.Path.{_∙_}
+use Rattle.products.proofs.Mixing.{disjoint-is, within-same, within-places, within-block}
+use Rattle.products.proofs.Halving.{block-bytes, by-rest, by-one}
 use Rattle.products.proofs.within.mix_part.Statement.{statement}
 use Rattle.products.proofs.within.mix_part.Tie as tie
 
@@ -27,6 +30,9 @@ copy-requires c κs = search needs
 add-f : tie.Need-add-f
 add-f c = let h = disjoint-is (c .before .before .before .before .before .before .pre .0) in omega (arith, h .first)
 
+by-doubling-requires : tie.Need-by-doubling-requires
+by-doubling-requires c κs = search needs
+
 sub-add : tie.Need-sub-add
 sub-add c = search needs
 
@@ -34,7 +40,7 @@ part-add-start : tie.Need-part-add-start
 part-add-start c = search needs
 
 part-add-end : tie.Need-part-add-end
-part-add-end c = let h = disjoint-is (c .before .before .before .before .before .before .before .pre .0) in omega (arith, h .first)
+part-add-end c = let h = disjoint-is (c .before .before .before .before .before .before .before .before .before .pre .0) in omega (arith, h .first)
 
 slice-aggregate-add : tie.Need-slice-aggregate-add
 slice-aggregate-add c = search needs
@@ -47,12 +53,15 @@ same-length c = search needs
 
 returns : tie.Need-returns
 returns c =
-    let t = c .before .before .before .before .before .before .before in
+    let t = c .before .before .before .before .before .before .before .before .before in
     let s = t .before .before .before .before .before in
     let h = disjoint-is (s .pre .0) in
-    let block = within-block _ _ _ _ (s .args .a .now) _ _ h (s .pre .1) (t .copy .ensures) (c .before .before .add .ensures) in
+    let k = c .before .before .before .before .before .before .by-doubling in
     let bytes : Bytes (s .args .a .now) = λ i. t .before .before .before .before .slice-known .given i .fits in
-    within-same (within-one (c .before .before .before .before .before .if1 .taken) bytes block) (within-places _ _ _ _ _ h)
+    let block = block-bytes (s .args .from) (s .args .from + s .args .n - s .args .from) (s .args .a .now) _ bytes (t .copy .ensures) in
+    let one = c .before .before .before .before .before .if1 .taken in
+    let is = c .before .before .add .ensures ∙ by-one (s .args .c) (k .result) _ _ _ one block (k .ensures) in
+    within-same (within-block _ _ _ _ (s .args .a .now) _ _ h (s .pre .1) (t .copy .ensures) is) (within-places _ _ _ _ _ h)
 
 sub-scale-add : tie.Need-sub-scale-add
 sub-scale-add c = search needs
@@ -61,7 +70,7 @@ part-scale-add-start : tie.Need-part-scale-add-start
 part-scale-add-start c = search needs
 
 part-scale-add-end : tie.Need-part-scale-add-end
-part-scale-add-end c = let h = disjoint-is (c .before .before .before .before .before .before .before .pre .0) in omega (arith, h .first)
+part-scale-add-end c = let h = disjoint-is (c .before .before .before .before .before .before .before .before .before .pre .0) in omega (arith, h .first)
 
 slice-aggregate-scale-add : tie.Need-slice-aggregate-scale-add
 slice-aggregate-scale-add c = search needs
@@ -74,11 +83,12 @@ same-length-2 c = search needs
 
 returns-2 : tie.Need-returns-2
 returns-2 c =
-    let t = c .before .before .before .before .before .before .before in
+    let t = c .before .before .before .before .before .before .before .before .before in
     let s = t .before .before .before .before .before in
     let h = disjoint-is (s .pre .0) in
-    let block = within-block _ _ _ _ (s .args .a .now) _ _ h (s .pre .1) (t .copy .ensures) (c .before .before .scale-add .ensures) in
-    within-same block (within-places _ _ _ _ _ h)
+    let k = c .before .before .before .before .before .before .by-doubling in
+    let is = c .before .before .scale-add .ensures ∙ by-rest (s .args .c) (k .result) _ _ _ (k .ensures) in
+    within-same (within-block _ _ _ _ (s .args .a .now) _ _ h (s .pre .1) (t .copy .ensures) is) (within-places _ _ _ _ _ h)
 
 pub mix-part-spec : {M : Type 1} → statement M
 mix-part-spec =
@@ -91,6 +101,7 @@ mix-part-spec =
     part-copy-end
     copy-requires
     add-f
+    by-doubling-requires
     sub-add
     part-add-start
     part-add-end

@@ -1,5 +1,5 @@
 -- Rows put into a buffer block by block: a block extends its own row and leaves the others.
-use mathlib.Core.Path.{_≡_, sym, ap, ap₂, _∙_, subst}
+use mathlib.Core.Path.{_≡_, refl, sym, ap, ap₂, _∙_, subst}
 use mathlib.Core.Bool.{Bool, true, false, cond}
 use mathlib.Core.List.{List}
 use mathlib.Core.Logic.{_⊎_, inl, inr, ⊎-elim}
@@ -16,7 +16,7 @@ use Rattle.field.proofs.Cases.{below-or-from}
 use Rattle.lanes.specs.Lanes.{onto}
 use Rattle.lanes.proofs.Onto.{onto-at, onto-length}
 use Rattle.stripe.specs.Stripe.{across}
-use Rattle.rows.specs.Rows.{RowIn, RowsBelow, Put, rowsFit, rowsOf, filled}
+use Rattle.rows.specs.Rows.{RowIn, RowsBelow, RowsTo, Put, rowsFit, rowsOf, filled}
 use Rattle.lanes.proofs.Parts.{part-length, back-length, back-inside, back-outside}
 use Rattle.stripe.proofs.Places.{place-lt, place-column, place-byte, by-places}
 
@@ -89,13 +89,17 @@ module _ (xs : List ℕ) (k l from n : ℕ) (fits : from + n ≤ l) where
         (other 0 2 from from ps b qs (inr (lit< tt)) (omega arith) (omega arith) put0 (λ q. h 2 q (lit< tt)))) p
     filled-3 rs ss e r2 put1 put2 h (suc (suc (suc i))) = λ p j. absurd (not-suc-le-zero (le-of-suc-le-suc (le-of-suc-le-suc (le-of-suc-le-suc j))))
 
--- a whole row more, of columns no longer than a block
-pub short-more : (xs : List ℕ) (k l j : ℕ) (ps b qs : List ℕ) → RowIn xs k l 0 l j b → Put ps (j * l) l b qs → RowsBelow xs k l j l ps
-    → RowsBelow xs k l (j + 1) l qs
-short-more xs k l j ps b qs r put h i p less =
-    below-more (λ (i : ℕ). RowBelow xs k l i l qs) j
-    (λ i d. other xs k l 0 l (omega arith) j i (j * l) l ps b qs (inl d) (omega arith) (omega arith) put (λ q. h i q d))
-    (λ q w. own xs k l 0 l (omega arith) j (j * l) ps b qs (omega arith) put r (λ o z. absurd (not-suc-le-zero z)) q (omega arith)) i less p
+-- a block more of row j, and then the whole of it
+pub part-more : (xs : List ℕ) (k l j from n : ℕ) (ps b qs : List ℕ) → from + n ≤ l → RowIn xs k l from n j b → Put ps (j * l + from) n b qs
+    → RowsTo xs k l j from ps → RowsTo xs k l j (from + n) qs
+part-more xs k l j from n ps b qs fits r put h = (
+  λ i p d less. other xs k l from n fits j i (j * l + from) l ps b qs (inl d) refl (omega arith) put (λ q. h .0 i q d) p less,
+  own xs k l from n fits j (j * l + from) ps b qs refl put r (h .1),
+)
+
+pub part-all : (xs : List ℕ) (k l j e : ℕ) (ps : List ℕ) → e ≡ l → RowsTo xs k l j e ps → RowsBelow xs k l (j + 1) l ps
+part-all xs k l j e ps same h i p less =
+    below-more (λ (i : ℕ). RowBelow xs k l i l ps) j (λ i d q. h .0 i q d) (λ q w. h .1 q (omega arith)) i less p
 
 -- the same of another number that is the same
 pub rows-by : (xs : List ℕ) (k l r s e : ℕ) (ps : List ℕ) → r ≡ s → RowsBelow xs k l s e ps → RowsBelow xs k l r e ps

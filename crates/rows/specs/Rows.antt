@@ -53,6 +53,10 @@ RowIn xs k l from n j b = (q : ℕ) → q < n → getD b q 0 ≡ row j (across x
 abbrev pub RowsBelow : List ℕ → ℕ → ℕ → ℕ → ℕ → List ℕ → Type 0
 RowsBelow xs k l r e ps = (j p : ℕ) → j < r → p < e → getD ps (j * l + p) 0 ≡ row j (across xs l p 0 k)
 
+-- rows 0 to j - 1 stand there, and row j at its places below e
+abbrev pub RowsTo : List ℕ → ℕ → ℕ → ℕ → ℕ → List ℕ → Type 0
+RowsTo xs k l j e ps = RowsBelow xs k l j l ps × ((p : ℕ) → p < e → getD ps (j * l + p) 0 ≡ row j (across xs l p 0 k))
+
 -- ys is xs but for the n places from `at` on, which hold the first bytes of b
 pub record Put (xs : List ℕ) (at n : ℕ) (b ys : List ℕ) : Type 0 where
   pub long : length ys ≡ length xs

@@ -1,7 +1,8 @@
 // Rows of whole columns, filled into a buffer or added to a run, in blocks of 64 places. The rows of a block are formed together, by
 // Horner's rule from the last column to the first, in local arrays that the loops of `lanes` and `steps` are lent. Each count of rows
 // has its own functions, and a block has the literal length 64: so the compiler keeps it in registers. The last block of a column ends
-// where the column ends, over bytes that are there already; only a column shorter than a block is taken row by row.
+// where the column ends, over bytes that are there already; only a column shorter than a block is taken row by row, and 16 places at a
+// time, as the end of a run is.
 use lanes::add;
 use lanes::copy;
 use steps::double_add;
@@ -11,11 +12,12 @@ use stripe::MOST_DATA;
 use stripe::MOST_LENGTH;
 use stripe::MOST_ROWS;
 ghost use mathlib.Core.Path.{_≡_};
+ghost use mathlib.Core.List.{List};
 ghost use Prim.Native.Nat.{ℕ, _+_, _*_, _≤_, _<_};
 ghost use lib.ListN.{length, getD};
 ghost use Rattle.field.specs.Field.{_⊕_, _⊗_};
 ghost use Rattle.lanes.specs.Lanes.{onto, both};
-ghost use Rattle.rows.specs.Rows.{columnsFit, rowsFit, runFits, filled, added, stepOf, RowIn, RowsBelow, Put, Added};
+ghost use Rattle.rows.specs.Rows.{columnsFit, rowsFit, runFits, filled, added, stepOf, RowIn, RowsBelow, RowsTo, Put, Added};
 ghost use Rattle.stripe.specs.Shape.{mostRows};
 
 // Rows 0, 1 and 2 of a block, or the first two of them.
@@ -240,10 +242,39 @@ fn fill_short(data: &[u8], k: usize, l: usize, r: usize, out: &mut [u8])
 {
     let mut j = 0;
     while j < r {
-        let b = row_block(data, k, l, j, 0, l);
-        put(out, j * l, l, &b);
+        fill_row(data, k, l, j, out);
         j += 1;
     }
+}
+
+// Row j of columns no longer than a block, where those before are there.
+fn fill_row(data: &[u8], k: usize, l: usize, j: usize, out: &mut [u8])
+    requires { ⌜ (length (now «data») ≡ k * l)
+        × ((0 < k) × ((l ≤ 64) × ((j < mostRows) × ((j * l + l ≤ length (now out)) × RowsBelow (now «data») k l j l (now out))))) ⌝ }
+    ensures { λ _. ⌜ (length (now (out .exit)) ≡ length (now (out .entry)))
+        × RowsBelow (now («data» .entry)) k l (j + 1) l (now (out .exit)) ⌝ }
+{
+    let mut b = 0;
+    while 16 <= l - b {
+        fill_part(data, k, l, j, b, 16, out);
+        b += 16;
+    }
+    if b < l {
+        fill_part(data, k, l, j, b, l - b, out);
+    }
+}
+
+// Row j at the n places from `from` on, where those before and the rows before are there.
+fn fill_part(data: &[u8], k: usize, l: usize, j: usize, from: usize, n: usize, out: &mut [u8])
+    requires { ⌜ (length (now «data») ≡ k * l)
+        × ((0 < k)
+        × ((n ≤ 64)
+        × ((from + n ≤ l) × ((j < mostRows) × ((j * l + l ≤ length (now out)) × RowsTo (now «data») k l j from (now out)))))) ⌝ }
+    ensures { λ _. ⌜ (length (now (out .exit)) ≡ length (now (out .entry)))
+        × RowsTo (now («data» .entry)) k l j (from + n) (now (out .exit)) ⌝ }
+{
+    let c = row_block(data, k, l, j, from, n);
+    put(out, j * l + from, n, &c);
 }
 
 // Whether d bytes are k columns of l bytes, within the numbers of a stripe.
@@ -341,7 +372,23 @@ pub fn add_row(data: &[u8], k: usize, l: usize, j: usize, from: usize, run: &mut
         add_block(data, k, l, j, from + b, b, 64, run);
         b += 64;
     }
-    if b < m {
-        add_block(data, k, l, j, from + b, b, m - b, run);
+    add_rest(data, k, l, j, from, b, run);
+}
+
+// The same of a run to which it is added at the b first places: at those that are left.
+fn add_rest(data: &[u8], k: usize, l: usize, j: usize, from: usize, b: usize, run: &mut [u8])
+    requires { ⌜ (length (now «data») ≡ k * l) × ((0 < k) × ((j < mostRows)
+        × ((from + length (now run) ≤ l) × (b ≤ length (now run))))) ⌝ }
+    ensures { λ _. ⌜ ((ps : List ℕ) → Added (now («data» .entry)) k l j from 0 b ps (now (run .entry))
+        → Added (now («data» .entry)) k l j from 0 (length ps) ps (now (run .exit))) ⌝ }
+{
+    let m = run.len();
+    let mut q = b;
+    while 16 <= m - q {
+        add_block(data, k, l, j, from + q, q, 16, run);
+        q += 16;
+    }
+    if q < m {
+        add_block(data, k, l, j, from + q, q, m - q, run);
     }
 }

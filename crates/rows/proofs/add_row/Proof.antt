@@ -8,7 +8,7 @@ use borrow.Author.Needs.{needs}
 use borrow.Author.Tests.{not-true, not-false}
 use Rattle.rows.specs.Rows.{runFits, Added}
 use Rattle.rows.proofs.Fits.{Run, run-fits}
-use Rattle.rows.proofs.Added.{added-none, added-more, added-all, added-left, added-exact}
+use Rattle.rows.proofs.Added.{added-none, added-more, added-left, added-exact}
 use Rattle.rows.proofs.add_row.Statement.{statement}
 use Rattle.rows.proofs.add_row.Tie as tie
 
@@ -57,33 +57,18 @@ loop-again : tie.Need-loop-again Inv-loop μ-loop
 loop-again c =
     (search needs, added-more _ _ _ _ _ _ 64 _ _ _ _ refl (c .before .before .before .before .before .loop .inv .1) (c .before .before .add-block .ensures))
 
-add-add-block-2 : tie.Need-add-add-block-2 Inv-loop μ-loop
-add-add-block-2 c = omega (arith, known (c .before .before))
-
-sub-add-block : tie.Need-sub-add-block Inv-loop μ-loop
-sub-add-block c = search needs
-
-add-block-requires-2 : tie.Need-add-block-requires-2 Inv-loop μ-loop
-add-block-requires-2 c κs =
-    let f = known (c .before .before .before) in
-    (f .columns .long, (f .columns .some, (f .row, (search needs, (omega (arith, f .inside), search needs)))))
+add-rest-requires : tie.Need-add-rest-requires Inv-loop μ-loop
+add-rest-requires c κs =
+    let f = known (c .before .before) in
+    (f .columns .long, (f .columns .some, (f .row, (omega (arith, f .inside, c .before .before .loop .inv .1 .long), search needs))))
 
 same-length : tie.Need-same-length Inv-loop μ-loop
 same-length c = search needs
 
 returns-2 : tie.Need-returns-2 Inv-loop μ-loop
 returns-2 c =
-    let at = c .before .before .before .before .before .before .loop in
-    added-exact _ _ _ _ _ _ (fits (c .before .before .before .before .before .before)) _
-    (added-more _ _ _ _ _ (at .b) _ _ _ _ _ (omega arith) (at .inv .1) (c .before .before .add-block2 .ensures))
-
-same-length-2 : tie.Need-same-length-2 Inv-loop μ-loop
-same-length-2 c = search needs
-
-returns-3 : tie.Need-returns-3 Inv-loop μ-loop
-returns-3 c =
-    let at = c .before .before .loop in
-    added-exact _ _ _ _ _ _ (fits (c .before .before)) _ (added-all _ _ _ _ _ (at .b) _ _ _ (omega (arith, c .if2 .left)) (at .inv .1))
+    let at = c .before .before .before .before .before in
+    added-exact _ _ _ _ _ _ (fits at) _ (c .before .before .add-rest .ensures _ (at .loop .inv .1))
 
 pub add-row-spec : {M : Type 1} → statement M
 add-row-spec =
@@ -100,10 +85,6 @@ add-row-spec =
     add-b
     loop-less
     loop-again
-    add-add-block-2
-    sub-add-block
-    add-block-requires-2
+    add-rest-requires
     same-length
-    returns-2
-    same-length-2
-    returns-3)
+    returns-2)

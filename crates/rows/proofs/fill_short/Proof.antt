@@ -6,7 +6,6 @@ use native.Mathlib.Nat.{not-suc-le-zero, mul-le-mul-right, suc-mul}
 use lib.ListN.{length}
 use borrow.Author.Needs.{needs}
 use Rattle.rows.specs.Rows.{RowsBelow}
-use Rattle.rows.proofs.Filled.{short-more}
 use Rattle.rows.proofs.fill_short.Statement.{statement}
 use Rattle.rows.proofs.fill_short.Tie as tie
 
@@ -19,21 +18,16 @@ abbrev μ-loop : tie.MeasureT-loop
 loop-holds : tie.Need-loop-holds Inv-loop μ-loop
 loop-holds c = (search needs, search needs, λ j p h less. absurd (not-suc-le-zero h))
 
-row-block-requires : tie.Need-row-block-requires Inv-loop μ-loop
-row-block-requires c κs = search needs
-
--- row j lies in the buffer
-inside : (c : tie.In-loop Inv-loop μ-loop)
-    → c .before .loop .j * c .before .before .before .before .args .l + c .before .before .before .before .args .l ≤ length (c .before .loop .out)
-inside c =
-    let l = c .before .before .before .before .args .l in
-    omega (arith, c .before .loop .inv .1, mul-le-mul-right l (c .loop-test .taken), suc-mul (c .before .loop .j) l)
-
-mul-put : tie.Need-mul-put Inv-loop μ-loop
-mul-put c = omega (arith, inside (c .before .before))
-
-put-requires : tie.Need-put-requires Inv-loop μ-loop
-put-requires c κs = (inside (c .before .before .before), search needs)
+fill-row-requires : tie.Need-fill-row-requires Inv-loop μ-loop
+fill-row-requires c κs =
+    let s = c .before .before .before .before .before in
+    let h = s .pre in
+    let l = s .args .l in
+    let at = c .before .before .loop in
+    let less = c .before .loop-test .taken in
+    -- row j lies in the buffer
+    let inside : at .j * l + l ≤ length (at .out) = omega (arith, at .inv .1, mul-le-mul-right l less, suc-mul (at .j) l) in
+    (h .0, (h .1 .0, (h .1 .1 .0, (omega (arith, less, h .1 .1 .1 .1), (inside, at .inv .2)))))
 
 add-j : tie.Need-add-j Inv-loop μ-loop
 add-j c = search needs
@@ -43,9 +37,9 @@ loop-less c = search needs
 
 loop-again : tie.Need-loop-again Inv-loop μ-loop
 loop-again c =
-    let at = c .before .before .before .before .before .before .before .loop in
-    let w = c .before .before .put .ensures in
-    (omega arith, w .long ∙ at .inv .1, short-more _ _ _ (at .j) _ _ _ (c .before .before .before .before .before .row-block .ensures) w (at .inv .2))
+    let at = c .before .before .before .before .before .loop in
+    let e = c .before .before .fill-row .ensures in
+    (omega (arith, c .before .before .before .before .loop-test .taken), e .0 ∙ at .inv .1, e .1)
 
 same-length : tie.Need-same-length Inv-loop μ-loop
 same-length c = search needs
@@ -60,9 +54,7 @@ fill-short-spec =
     Inv-loop
     μ-loop
     loop-holds
-    row-block-requires
-    mul-put
-    put-requires
+    fill-row-requires
     add-j
     loop-less
     loop-again

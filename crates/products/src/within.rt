@@ -23,6 +23,21 @@ pub fn mix(a: &mut [u8], to: usize, from: usize, n: usize, c: u8)
         q += 64;
     }
     if q < n {
+        mix_rest(a, to + q, from + q, n - q, c);
+    }
+}
+
+// The same of bytes which are there and apart, 16 at a time: runs of prepared stripes are often short.
+fn mix_rest(a: &mut [u8], to: usize, from: usize, n: usize, c: u8)
+    requires { ⌜ (disjoint to from n (length (now a)) ≡ true) × (n ≤ 64) ⌝ }
+    ensures { λ _. ⌜ now (a .exit) ≡ within (λ (x y : ℕ). x ⊕ c ⊗ y) to from n (now (a .entry)) ⌝ }
+{
+    let mut q = 0;
+    while 16 <= n - q {
+        mix_part(a, to + q, from + q, 16, c);
+        q += 16;
+    }
+    if q < n {
         mix_part(a, to + q, from + q, n - q, c);
     }
 }

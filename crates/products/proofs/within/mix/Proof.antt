@@ -52,17 +52,17 @@ loop-again c =
     let fits : l .q + 64 ≤ a .n = omega (arith, c .before .before .before .before .loop-test .taken, l .inv .0) in
     (fits, (l .inv .1 .0, within-part 64 (l .inv .1 .0) fits (l .inv .1 .1) (c .before .before .mix-part .ensures)))
 
-add-mix-part-3 : tie.Need-add-mix-part-3 Inv-loop μ-loop
-add-mix-part-3 c = let l = c .before .before .before .loop in omega (arith, l .inv .1 .0 .first, l .inv .0)
+add-mix-rest : tie.Need-add-mix-rest Inv-loop μ-loop
+add-mix-rest c = let l = c .before .before .before .loop in omega (arith, l .inv .1 .0 .first, l .inv .0)
 
-add-mix-part-4 : tie.Need-add-mix-part-4 Inv-loop μ-loop
-add-mix-part-4 c = let l = c .before .before .before .loop in omega (arith, l .inv .1 .0 .second, l .inv .0)
+add-mix-rest-2 : tie.Need-add-mix-rest-2 Inv-loop μ-loop
+add-mix-rest-2 c = let l = c .before .before .before .loop in omega (arith, l .inv .1 .0 .second, l .inv .0)
 
-sub-mix-part : tie.Need-sub-mix-part Inv-loop μ-loop
-sub-mix-part c = c .before .before .before .loop .inv .0
+sub-mix-rest : tie.Need-sub-mix-rest Inv-loop μ-loop
+sub-mix-rest c = c .before .before .before .loop .inv .0
 
-mix-part-requires-2 : tie.Need-mix-part-requires-2 Inv-loop μ-loop
-mix-part-requires-2 c κs =
+mix-rest-requires : tie.Need-mix-rest-requires Inv-loop μ-loop
+mix-rest-requires c κs =
     let l = c .before .before .before .loop in
     (part-ready (l .q) _ (l .a) (l .inv .1 .0) (omega (arith, l .inv .0)) (l .inv .1 .1 .long), omega (arith, c .before .before .loop-test .left))
 
@@ -73,7 +73,7 @@ returns-2 : tie.Need-returns-2 Inv-loop μ-loop
 returns-2 c =
     let l = c .before .before .before .before .before .before .loop in
     let h = l .inv .1 .0 in
-    let all = within-part _ h (omega (arith, l .inv .0)) (l .inv .1 .1) (c .before .before .mix-part2 .ensures) in
+    let all = within-part _ h (omega (arith, l .inv .0)) (l .inv .1 .1) (c .before .before .mix-rest .ensures) in
     within-done _ h (omega (arith, l .inv .0)) all
 
 same-length-2 : tie.Need-same-length-2 Inv-loop μ-loop
@@ -100,10 +100,10 @@ mix-spec =
     add-q
     loop-less
     loop-again
-    add-mix-part-3
-    add-mix-part-4
-    sub-mix-part
-    mix-part-requires-2
+    add-mix-rest
+    add-mix-rest-2
+    sub-mix-rest
+    mix-rest-requires
     same-length
     returns-2
     same-length-2

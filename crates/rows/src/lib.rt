@@ -2,7 +2,10 @@
 // Horner's rule from the last column to the first, in local arrays that the loops of `lanes` and `steps` are lent. Each count of rows
 // has its own functions, and a block has the literal length 64: so the compiler keeps it in registers. The last block of a column ends
 // where the column ends, over bytes that are there already; only a column shorter than a block is taken row by row, and 16 places at a
-// time, as the end of a run is.
+// time, as the end of a run is. Three rows of many columns are formed in `wide`.
+mod wide;
+
+use crate::wide::fill_wide;
 use lanes::add;
 use lanes::copy;
 use steps::double_add;
@@ -12,6 +15,7 @@ use stripe::MOST_DATA;
 use stripe::MOST_LENGTH;
 use stripe::MOST_ROWS;
 ghost use mathlib.Core.Path.{_≡_};
+ghost use mathlib.Core.Bool.{true};
 ghost use mathlib.Core.List.{List};
 ghost use Prim.Native.Nat.{ℕ, _+_, _*_, _≤_, _<_};
 ghost use lib.ListN.{length, getD};
@@ -20,15 +24,18 @@ ghost use Rattle.lanes.specs.Lanes.{onto, both};
 ghost use Rattle.rows.specs.Rows.{columnsFit, rowsFit, runFits, filled, added, stepOf, RowIn, RowsBelow, RowsTo, Put, Added};
 ghost use Rattle.stripe.specs.Shape.{mostRows};
 
+// From how many columns on three rows take less time in `wide`.
+const WIDE: usize = 48;
+
 // Rows 0, 1 and 2 of a block, or the first two of them.
-struct Rows {
-    row0: [u8; 64],
-    row1: [u8; 64],
-    row2: [u8; 64],
+pub(crate) struct Rows {
+    pub(crate) row0: [u8; 64],
+    pub(crate) row1: [u8; 64],
+    pub(crate) row2: [u8; 64],
 }
 
 // The n bytes from `at` on: any row of a last column alone.
-fn last(data: &[u8], at: usize, n: usize) -> [u8; 64]
+pub(crate) fn last(data: &[u8], at: usize, n: usize) -> [u8; 64]
     requires { ⌜ (at + n ≤ length (now «data»)) × (n ≤ 64) ⌝ }
     ensures { λ v. ⌜ ((q : ℕ) → q < n → getD v q 0 ≡ getD (now («data» .entry)) (at + q) 0) ⌝ }
 {
@@ -94,7 +101,7 @@ fn block2(data: &[u8], k: usize, l: usize, from: usize) -> Rows
 }
 
 // One column more of rows 0, 1 and 2.
-fn one_more(row0: &mut [u8; 64], row1: &mut [u8; 64], row2: &mut [u8; 64], d: &[u8])
+pub(crate) fn one_more(row0: &mut [u8; 64], row1: &mut [u8; 64], row2: &mut [u8; 64], d: &[u8])
     ensures { λ _. ⌜ now (row0 .exit) ≡ onto (λ (x y : ℕ). x ⊕ y) (now (row0 .entry)) (now (d .entry)) ⌝ }
     ensures { λ _. ⌜ now (row1 .exit) ≡ onto (λ (x y : ℕ). 2 ⊗ x ⊕ y) (now (row1 .entry)) (now (d .entry)) ⌝ }
     ensures { λ _. ⌜ now (row2 .exit) ≡ onto (λ (x y : ℕ). 4 ⊗ x ⊕ y) (now (row2 .entry)) (now (d .entry)) ⌝ }
@@ -150,7 +157,7 @@ fn block3(data: &[u8], k: usize, l: usize, from: usize) -> Rows
 }
 
 // The first n bytes of the block b, from `at` on.
-fn put(out: &mut [u8], at: usize, n: usize, b: &[u8; 64])
+pub(crate) fn put(out: &mut [u8], at: usize, n: usize, b: &[u8; 64])
     requires { ⌜ (at + n ≤ length (now out)) × (n ≤ 64) ⌝ }
     ensures { λ _. ⌜ Put (now (out .entry)) at n (now (b .entry)) (now (out .exit)) ⌝ }
 {
@@ -325,6 +332,16 @@ fn run_fits(d: usize, k: usize, l: usize, j: usize, from: usize, n: usize) -> bo
     n <= l - from
 }
 
+// Whether r rows of k columns are formed in `wide`.
+fn many(k: usize, r: usize) -> bool
+    ensures { λ v. ⌜ (v ≡ true → 3 ≤ r) ⌝ }
+{
+    if r < 3 {
+        return false;
+    }
+    WIDE <= k
+}
+
 // The first r rows of the k columns of l bytes, at all places; where the numbers do not fit, the buffer stays.
 pub fn fill_rows(data: &[u8], k: usize, l: usize, r: usize, out: &mut [u8])
     ensures { λ _. ⌜ now (out .exit) ≡ filled (now («data» .entry)) k l r (now (out .entry)) ⌝ }
@@ -334,6 +351,10 @@ pub fn fill_rows(data: &[u8], k: usize, l: usize, r: usize, out: &mut [u8])
     }
     if l < 64 {
         fill_short(data, k, l, r, out);
+        return;
+    }
+    if many(k, r) {
+        fill_wide(data, k, l, out);
         return;
     }
     fill_long(data, k, l, r, out);

@@ -89,6 +89,15 @@ static void fold_month(void)
     printf("  fold: %u columns of %u read, %u bytes\n", (unsigned)columns, STRIPES * N, (unsigned)at);
 }
 
+/* The bill of the fold, which a daemon can tell before it reads a byte: what goes over the network in both directions. */
+static void print_bill(void)
+{
+    printf("  bill: columns: %u read, %u written, sum %u\n", (unsigned)shelf_plan_columns_read(K, R, T, L, STRIPES, F),
+           (unsigned)shelf_plan_columns_written(K, R, T, L, STRIPES, F), (unsigned)shelf_plan_columns_sum(K, R, T, L, STRIPES, F));
+    printf("  bill: bytes: %u read, %u written, sum %u\n", (unsigned)shelf_plan_bytes_read(K, R, T, L, STRIPES, F),
+           (unsigned)shelf_plan_bytes_written(K, R, T, L, STRIPES, F), (unsigned)shelf_plan_bytes_sum(K, R, T, L, STRIPES, F));
+}
+
 static void wipe_old_parity(void)
 {
     for (int s = 0; s < STRIPES; s++)
@@ -102,6 +111,7 @@ static void a_good_month(void)
     for (int s = 0; s < STRIPES; s++)
         expect(check_stripe(s) == SHELF_OK, "each stripe is a codeword");
     printf("  check of the three stripes: each is a codeword\n");
+    print_bill();
     fold_month();
     expect(check_wide() == SHELF_OK, "the wide stripe is a codeword");
     printf("  check of the wide stripe: a codeword\n");

@@ -36,7 +36,7 @@
  * Its plan says which bytes are read: one span per column read, the stripes in order and in each the positions in order. If t is 0,
  * f <= r and f <= k, these are the parity columns 0 to f-1 of each stripe, whole; with r above 3, where f = r, that is so if k >= r. If
  * t is not 0, the bytes from r * (l/t) on of each data column, and every parity column, whole. Else every data column, whole. The
- * longest plan has 425 spans.
+ * longest plan has 425 spans. A fold writes the f parity columns of the wide stripe and nothing else: the data columns stay as they are.
  *
  * The caller's duties, which no function can check:
  *   - a pointer beside a length that is not 0 points to that many bytes or records, which may be read, and written where it is not
@@ -76,7 +76,7 @@ extern "C" {
 #endif
 
 /* The version of this header and of the library that it came with. */
-#define SHELF_VERSION "0.3.1"
+#define SHELF_VERSION "0.4.0"
 
 /* The limits, for the sizes of a caller's buffers. */
 enum {
@@ -203,7 +203,7 @@ uint32_t shelf_plan_refusal(uint64_t k, uint64_t r, uint64_t t, uint64_t l, uint
  *   k, r, t, l   the numbers of the stripes
  *   stripes, f   the numbers of the fold
  *
- * Returns the number of columns, which is 0 only where shelf_plan_refusal is not 0. Nothing is written.
+ * Returns the number of columns, which is 0 where shelf_plan_refusal is not 0, and only there. Nothing is written.
  *
  * Stack: less than 512 bytes.
  */
@@ -214,11 +214,58 @@ uint64_t shelf_plan_columns_read(uint64_t k, uint64_t r, uint64_t t, uint64_t l,
  *   k, r, t, l   the numbers of the stripes
  *   stripes, f   the numbers of the fold
  *
- * Returns the number of bytes, which is 0 only where shelf_plan_refusal is not 0. Nothing is written.
+ * Returns the number of bytes, which is 0 where shelf_plan_refusal is not 0, and only there. Nothing is written.
  *
  * Stack: less than 512 bytes.
  */
 uint64_t shelf_plan_bytes_read(uint64_t k, uint64_t r, uint64_t t, uint64_t l, uint64_t stripes, uint64_t f);
+
+/* How many columns a fold writes: the parity columns of the wide stripe.
+ *
+ *   k, r, t, l   the numbers of the stripes
+ *   stripes, f   the numbers of the fold
+ *
+ * Returns f, or 0 where shelf_plan_refusal is not 0. The call itself writes nothing.
+ *
+ * Stack: less than 512 bytes.
+ */
+uint64_t shelf_plan_columns_written(uint64_t k, uint64_t r, uint64_t t, uint64_t l, uint64_t stripes, uint64_t f);
+
+/* How many columns a fold reads and writes: the papers' access cost.
+ *
+ *   k, r, t, l   the numbers of the stripes
+ *   stripes, f   the numbers of the fold
+ *
+ * Returns shelf_plan_columns_read and shelf_plan_columns_written, added: 0 where shelf_plan_refusal is not 0, and only there. Nothing is
+ * written.
+ *
+ * Stack: less than 512 bytes.
+ */
+uint64_t shelf_plan_columns_sum(uint64_t k, uint64_t r, uint64_t t, uint64_t l, uint64_t stripes, uint64_t f);
+
+/* How many bytes a fold writes: the parity_len of shelf_fold.
+ *
+ *   k, r, t, l   the numbers of the stripes
+ *   stripes, f   the numbers of the fold
+ *
+ * Returns f * l, or 0 where shelf_plan_refusal is not 0. The call itself writes nothing.
+ *
+ * Stack: less than 512 bytes.
+ */
+uint64_t shelf_plan_bytes_written(uint64_t k, uint64_t r, uint64_t t, uint64_t l, uint64_t stripes, uint64_t f);
+
+/* How many bytes a fold reads and writes: the papers' conversion bandwidth, and what a network bill counts where one machine reads the
+ * plan's spans and sends the new parity to its disks.
+ *
+ *   k, r, t, l   the numbers of the stripes
+ *   stripes, f   the numbers of the fold
+ *
+ * Returns shelf_plan_bytes_read and shelf_plan_bytes_written, added: 0 where shelf_plan_refusal is not 0, and only there. Nothing is
+ * written.
+ *
+ * Stack: less than 512 bytes.
+ */
+uint64_t shelf_plan_bytes_sum(uint64_t k, uint64_t r, uint64_t t, uint64_t l, uint64_t stripes, uint64_t f);
 
 /* Writes the spans of the plan of a fold.
  *
@@ -241,8 +288,8 @@ uint32_t shelf_plan_spans(uint64_t k, uint64_t r, uint64_t t, uint64_t l, uint64
  *   stripes, f           the numbers of the fold
  *   read, read_len       the bytes of the plan's spans, one span after another in the plan's order: read_len is
  *                        shelf_plan_bytes_read. They are read and stay as they are.
- *   parity, parity_len   the parity columns 0 to f-1 of the wide stripe in order: parity_len is f * l. What they held does not
- *                        matter.
+ *   parity, parity_len   the parity columns 0 to f-1 of the wide stripe in order: parity_len is f * l, which is
+ *                        shelf_plan_bytes_written. What they held does not matter.
  *
  * The parity is that which shelf_encode fills in for the plain stripe of stripes * k data columns and f parity columns, if the
  * stripes that the bytes were read of held their own parity.

@@ -29,6 +29,10 @@ static void mend(void) { answer = shelf_mend(k, r, t, l, stripe, (k + r) * l, pa
 static void refusal(void) { answer = shelf_plan_refusal(k, r, t, l, stripes, f); }
 static void columns(void) { answer = shelf_plan_columns_read(k, r, t, l, stripes, f); }
 static void bytes(void) { answer = shelf_plan_bytes_read(k, r, t, l, stripes, f); }
+static void columns_written(void) { answer = shelf_plan_columns_written(k, r, t, l, stripes, f); }
+static void columns_sum(void) { answer = shelf_plan_columns_sum(k, r, t, l, stripes, f); }
+static void bytes_written(void) { answer = shelf_plan_bytes_written(k, r, t, l, stripes, f); }
+static void bytes_sum(void) { answer = shelf_plan_bytes_sum(k, r, t, l, stripes, f); }
 static void plan(void) { answer = shelf_plan_spans(k, r, t, l, stripes, f, spans, SHELF_MAX_SPANS); }
 static void fold(void) { answer = shelf_fold(k, r, t, l, stripes, f, stripe, shelf_plan_bytes_read(k, r, t, l, stripes, f), parity, f * l); }
 static void read_record(void) { answer = shelf_read_record(record, length, stripe, SHELF_RECORD_BYTES, lost, SHELF_RECORD_LOST, numbers, SHELF_RECORD_NUMBERS); }
@@ -55,7 +59,9 @@ static size_t depth(void (*call)(void))
 
 static const struct { const char *name; void (*call)(void); int folds; } calls[] = {
     {"shelf_encode", encode, 0}, {"shelf_mend", mend, 0}, {"shelf_check", check, 0}, {"shelf_plan_refusal", refusal, 1},
-    {"shelf_plan_columns_read", columns, 1}, {"shelf_plan_bytes_read", bytes, 1}, {"shelf_plan_spans", plan, 1}, {"shelf_fold", fold, 1},
+    {"shelf_plan_columns_read", columns, 1}, {"shelf_plan_columns_written", columns_written, 1}, {"shelf_plan_columns_sum", columns_sum, 1},
+    {"shelf_plan_bytes_read", bytes, 1}, {"shelf_plan_bytes_written", bytes_written, 1}, {"shelf_plan_bytes_sum", bytes_sum, 1},
+    {"shelf_plan_spans", plan, 1}, {"shelf_fold", fold, 1},
     {"shelf_write_record", write_record, 0}, {"shelf_read_record", read_record, 0},
 };
 enum { CALLS = sizeof calls / sizeof *calls };

@@ -6,7 +6,10 @@
 #include <stddef.h>
 #include <stdint.h>
 
-enum op { ENCODE, MEND, FOLD, PLAN_REFUSAL, PLAN_COLUMNS, PLAN_BYTES, PLAN_SPANS, CHECK, READ_RECORD, WRITE_RECORD, OPS };
+enum op {
+    ENCODE, MEND, FOLD, PLAN_REFUSAL, PLAN_COLUMNS, PLAN_BYTES, PLAN_COLUMNS_WRITTEN, PLAN_BYTES_WRITTEN, PLAN_COLUMNS_SUM, PLAN_BYTES_SUM,
+    PLAN_SPANS, CHECK, READ_RECORD, WRITE_RECORD, OPS
+};
 
 enum { LENT = 4, MOST_BYTES = 1 << 21 };                       /* lent buffers of a call, and the most bytes of one */
 

@@ -344,8 +344,23 @@ static uint64_t plan_answer(void)
 {
     struct span spans[MAX_SPANS];
     unsigned lines = plan_lines(fold_of());
-    uint64_t refused = first_line(lines), columns = lines == 0 ? plan(fold_of(), spans) : 0, bytes = lines == 0 ? bytes_read(fold_of()) : 0;
-    return c.op == PLAN_REFUSAL ? refused : c.op == PLAN_COLUMNS ? columns : bytes;
+    uint64_t columns = 0, bytes = 0, new_columns = 0, new_bytes = 0;
+    if (lines == 0) {
+        struct fold w = fold_of();
+        columns = plan(w, spans);
+        bytes = bytes_read(w);
+        new_columns = w.f;
+        new_bytes = w.f * w.s.l;
+    }
+    switch (c.op) {
+    case PLAN_COLUMNS: return columns;
+    case PLAN_BYTES: return bytes;
+    case PLAN_COLUMNS_WRITTEN: return new_columns;
+    case PLAN_BYTES_WRITTEN: return new_bytes;
+    case PLAN_COLUMNS_SUM: return columns + new_columns;
+    case PLAN_BYTES_SUM: return bytes + new_bytes;
+    default: return first_line(lines);
+    }
 }
 
 static void plan_case(unsigned faults)
@@ -601,7 +616,7 @@ static void small_folds(struct shape s)
     for (uint64_t n = 2; n <= most + 1; n = n < 9 || n >= most ? n + 1 : most)
         for (uint64_t f = 0; f <= MAX_PARITY + 1; f++) {
             struct fold w = {s, n, f};
-            for (enum op op = PLAN_REFUSAL; op <= PLAN_BYTES; op++) {
+            for (enum op op = PLAN_REFUSAL; op <= PLAN_BYTES_SUM; op++) {
                 small_call(op, w);
                 judge(plan_answer());
             }

@@ -13,6 +13,10 @@ const struct op_entry ops[OPS] = {
     [PLAN_REFUSAL] = {"plan_refusal", 5, BITS_PLAN},
     [PLAN_COLUMNS] = {"plan_columns_read", 5, BITS_PLAN},
     [PLAN_BYTES] = {"plan_bytes_read", 5, BITS_PLAN},
+    [PLAN_COLUMNS_WRITTEN] = {"plan_columns_written", 3, BITS_PLAN},
+    [PLAN_BYTES_WRITTEN] = {"plan_bytes_written", 3, BITS_PLAN},
+    [PLAN_COLUMNS_SUM] = {"plan_columns_sum", 3, BITS_PLAN},
+    [PLAN_BYTES_SUM] = {"plan_bytes_sum", 3, BITS_PLAN},
     [PLAN_SPANS] = {"plan_spans", 12, BITS_PLAN | 1 << 5},
     [CHECK] = {"check", 10, BITS_SHAPE | 1 << 5 | 1 << 8},
     [READ_RECORD] = {"read_record", 15, BITS_SHAPE | 1 << 5 | 1 << 6 | 1 << 9 | 1 << 10},
@@ -123,7 +127,7 @@ static void table_of_all(void)
     unsigned possible = 0;
     uint64_t accepted = 0, given[LINES] = {0}, pairs[LINES][LINES] = {{0}}, in_data[4] = {0}, in_parity[4] = {0};
     char what[32];
-    printf("%-18s %9s %9s", "call", "calls", "accepted");
+    printf("%-22s %9s %9s", "call", "calls", "accepted");
     for (int n = 1; n < LINES; n++)
         printf("%*s%d", n < 10 ? 8 : 7, "ref. ", n);
     for (int op = 0; op < OPS; op++) {
@@ -131,7 +135,7 @@ static void table_of_all(void)
             continue;
         possible |= ops[op].lines;
         accepted += covered[op].lines[0];
-        printf("\n%-18s %9" PRIu64 " %9" PRIu64, ops[op].name, covered[op].calls, covered[op].lines[0]);
+        printf("\n%-22s %9" PRIu64 " %9" PRIu64, ops[op].name, covered[op].calls, covered[op].lines[0]);
         for (int n = 1; n < LINES; n++) {
             printf("%9" PRIu64, covered[op].lines[n]);
             given[n] += covered[op].lines[n];

@@ -38,6 +38,10 @@ static uint64_t answer_of(const uint64_t *m, enum op op, uint8_t *const p[LENT],
     case PLAN_REFUSAL: return shelf_plan_refusal(m[0], m[1], m[2], m[3], m[4], m[5]);
     case PLAN_COLUMNS: return shelf_plan_columns_read(m[0], m[1], m[2], m[3], m[4], m[5]);
     case PLAN_BYTES: return shelf_plan_bytes_read(m[0], m[1], m[2], m[3], m[4], m[5]);
+    case PLAN_COLUMNS_WRITTEN: return shelf_plan_columns_written(m[0], m[1], m[2], m[3], m[4], m[5]);
+    case PLAN_BYTES_WRITTEN: return shelf_plan_bytes_written(m[0], m[1], m[2], m[3], m[4], m[5]);
+    case PLAN_COLUMNS_SUM: return shelf_plan_columns_sum(m[0], m[1], m[2], m[3], m[4], m[5]);
+    case PLAN_BYTES_SUM: return shelf_plan_bytes_sum(m[0], m[1], m[2], m[3], m[4], m[5]);
     case PLAN_SPANS: return shelf_plan_spans(m[0], m[1], m[2], m[3], m[4], m[5], q[0], n[0] / sizeof(struct shelf_span));
     case CHECK: return shelf_check(m[0], m[1], m[2], m[3], p[0], n[0], p[1], n[1], q[2], q[3]);
     case READ_RECORD: return shelf_read_record(p[0], n[0], p[1], n[1], q[2], n[2] / 2, q[3], n[3] / 8);

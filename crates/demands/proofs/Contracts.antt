@@ -13,7 +13,7 @@ use borrow.Fn.World.{ArgsD, ResD}
 use denote.Triple.Clauses.{AtExit}
 use denote.Ref.{now}
 use Rattle.demands.specs.Calls.{Encodes, Mends, Folds, PlanRefuses, PlanColumns, PlanBytes, PlanSpans, Column, Reads, Writes, MendsRecord, Prints}
-use Rattle.demands.specs.Calls.{Checks, ReadsRecord, WritesRecord}
+use Rattle.demands.specs.Calls.{Checks, ReadsRecord, WritesRecord, PlanColumnsWritten, PlanColumnsSum, PlanBytesWritten, PlanBytesSum}
 use Rattle.shelf.proofs.shelf_encode as encode
 use Rattle.shelf.proofs.shelf_encode.Statement as encode-statement
 use Rattle.shelf.proofs.shelf_encode.Met as encode-met
@@ -42,6 +42,22 @@ use Rattle.shelf.proofs.shelf_plan_bytes_read as plan-bytes
 use Rattle.shelf.proofs.shelf_plan_bytes_read.Statement as plan-bytes-statement
 use Rattle.shelf.proofs.shelf_plan_bytes_read.Met as plan-bytes-met
 use Rattle.shelf.proofs.shelf_plan_bytes_read.Reads as plan-bytes-reads
+use Rattle.shelf.proofs.shelf_plan_columns_written as plan-columns-written
+use Rattle.shelf.proofs.shelf_plan_columns_written.Statement as plan-columns-written-statement
+use Rattle.shelf.proofs.shelf_plan_columns_written.Met as plan-columns-written-met
+use Rattle.shelf.proofs.shelf_plan_columns_written.Reads as plan-columns-written-reads
+use Rattle.shelf.proofs.shelf_plan_columns_sum as plan-columns-sum
+use Rattle.shelf.proofs.shelf_plan_columns_sum.Statement as plan-columns-sum-statement
+use Rattle.shelf.proofs.shelf_plan_columns_sum.Met as plan-columns-sum-met
+use Rattle.shelf.proofs.shelf_plan_columns_sum.Reads as plan-columns-sum-reads
+use Rattle.shelf.proofs.shelf_plan_bytes_written as plan-bytes-written
+use Rattle.shelf.proofs.shelf_plan_bytes_written.Statement as plan-bytes-written-statement
+use Rattle.shelf.proofs.shelf_plan_bytes_written.Met as plan-bytes-written-met
+use Rattle.shelf.proofs.shelf_plan_bytes_written.Reads as plan-bytes-written-reads
+use Rattle.shelf.proofs.shelf_plan_bytes_sum as plan-bytes-sum
+use Rattle.shelf.proofs.shelf_plan_bytes_sum.Statement as plan-bytes-sum-statement
+use Rattle.shelf.proofs.shelf_plan_bytes_sum.Met as plan-bytes-sum-met
+use Rattle.shelf.proofs.shelf_plan_bytes_sum.Reads as plan-bytes-sum-reads
 use Rattle.shelf.proofs.shelf_plan_spans as plan-spans
 use Rattle.shelf.proofs.shelf_plan_spans.Statement as plan-spans-statement
 use Rattle.shelf.proofs.shelf_plan_spans.Met as plan-spans-met
@@ -86,6 +102,10 @@ AllMet M =
     × plan-refusal-statement.statement M
     × plan-columns-statement.statement M
     × plan-bytes-statement.statement M
+    × plan-columns-written-statement.statement M
+    × plan-columns-sum-statement.statement M
+    × plan-bytes-written-statement.statement M
+    × plan-bytes-sum-statement.statement M
     × plan-spans-statement.statement M
     × column-statement.statement M
     × read-statement.statement M
@@ -104,6 +124,10 @@ all-met = (
   plan-refusal-met.met,
   plan-columns-met.met,
   plan-bytes-met.met,
+  plan-columns-written-met.met,
+  plan-columns-sum-met.met,
+  plan-bytes-written-met.met,
+  plan-bytes-sum-met.met,
   plan-spans-met.met,
   column-met.met,
   read-met.met,
@@ -137,6 +161,22 @@ module _ {M : Type 1} (𝓤 : URA M) (H : Heap 𝓤) (A : Atoms 𝓤) (mem : Mem
 
   pub plan-bytes-asks-nothing : (κs : Lfts 0) (a : ArgsD plan-bytes.signature κs) → plan-bytes.clauses 𝓤 H A mem run κs a .requires tt ≡ emp 𝓤
   plan-bytes-asks-nothing κs a = refl
+
+  pub plan-columns-written-asks-nothing : (κs : Lfts 0) (a : ArgsD plan-columns-written.signature κs)
+      → plan-columns-written.clauses 𝓤 H A mem run κs a .requires tt ≡ emp 𝓤
+  plan-columns-written-asks-nothing κs a = refl
+
+  pub plan-columns-sum-asks-nothing : (κs : Lfts 0) (a : ArgsD plan-columns-sum.signature κs)
+      → plan-columns-sum.clauses 𝓤 H A mem run κs a .requires tt ≡ emp 𝓤
+  plan-columns-sum-asks-nothing κs a = refl
+
+  pub plan-bytes-written-asks-nothing : (κs : Lfts 0) (a : ArgsD plan-bytes-written.signature κs)
+      → plan-bytes-written.clauses 𝓤 H A mem run κs a .requires tt ≡ emp 𝓤
+  plan-bytes-written-asks-nothing κs a = refl
+
+  pub plan-bytes-sum-asks-nothing : (κs : Lfts 0) (a : ArgsD plan-bytes-sum.signature κs)
+      → plan-bytes-sum.clauses 𝓤 H A mem run κs a .requires tt ≡ emp 𝓤
+  plan-bytes-sum-asks-nothing κs a = refl
 
   pub plan-spans-asks-nothing : (κs : Lfts 1) (a : ArgsD plan-spans.signature κs) → plan-spans.clauses 𝓤 H A mem run κs a .requires tt ≡ emp 𝓤
   plan-spans-asks-nothing κs a = refl
@@ -196,6 +236,30 @@ plan-columns-promises κs a v s = refl
 pub plan-bytes-promises : (κs : Lfts 0) (a : ArgsD plan-bytes.signature κs) (v : ResD plan-bytes.signature κs) (s : AtExit plan-bytes.ended κs)
     → plan-bytes-reads.Post κs a v s ≡ PlanBytes (a .0) (a .1 .0) (a .1 .1 .0) (a .1 .1 .1 .0) (a .1 .1 .1 .1 .0) (a .1 .1 .1 .1 .1 .0) (v .0)
 plan-bytes-promises κs a v s = refl
+
+pub plan-columns-written-promises : (κs : Lfts 0) (a : ArgsD plan-columns-written.signature κs) (v : ResD plan-columns-written.signature κs)
+    (s : AtExit plan-columns-written.ended κs)
+    → plan-columns-written-reads.Post κs a v s
+    ≡ PlanColumnsWritten (a .0) (a .1 .0) (a .1 .1 .0) (a .1 .1 .1 .0) (a .1 .1 .1 .1 .0) (a .1 .1 .1 .1 .1 .0) (v .0)
+plan-columns-written-promises κs a v s = refl
+
+pub plan-columns-sum-promises : (κs : Lfts 0) (a : ArgsD plan-columns-sum.signature κs) (v : ResD plan-columns-sum.signature κs)
+    (s : AtExit plan-columns-sum.ended κs)
+    → plan-columns-sum-reads.Post κs a v s
+    ≡ PlanColumnsSum (a .0) (a .1 .0) (a .1 .1 .0) (a .1 .1 .1 .0) (a .1 .1 .1 .1 .0) (a .1 .1 .1 .1 .1 .0) (v .0)
+plan-columns-sum-promises κs a v s = refl
+
+pub plan-bytes-written-promises : (κs : Lfts 0) (a : ArgsD plan-bytes-written.signature κs) (v : ResD plan-bytes-written.signature κs)
+    (s : AtExit plan-bytes-written.ended κs)
+    → plan-bytes-written-reads.Post κs a v s
+    ≡ PlanBytesWritten (a .0) (a .1 .0) (a .1 .1 .0) (a .1 .1 .1 .0) (a .1 .1 .1 .1 .0) (a .1 .1 .1 .1 .1 .0) (v .0)
+plan-bytes-written-promises κs a v s = refl
+
+pub plan-bytes-sum-promises : (κs : Lfts 0) (a : ArgsD plan-bytes-sum.signature κs) (v : ResD plan-bytes-sum.signature κs)
+    (s : AtExit plan-bytes-sum.ended κs)
+    → plan-bytes-sum-reads.Post κs a v s
+    ≡ PlanBytesSum (a .0) (a .1 .0) (a .1 .1 .0) (a .1 .1 .1 .0) (a .1 .1 .1 .1 .0) (a .1 .1 .1 .1 .1 .0) (v .0)
+plan-bytes-sum-promises κs a v s = refl
 
 pub column-promises : (κs : Lfts 1) (a : ArgsD column.signature κs) (v : ResD column.signature κs) (s : AtExit column.ended κs)
     → column-reads.Post κs a v s ≡ Column (a .0) (now (a .1 .0)) (now (a .1 .1 .0)) (a .1 .1 .1 .0) (now v)

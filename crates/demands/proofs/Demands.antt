@@ -26,7 +26,7 @@ use Rattle.checking.specs.Check.{firstWrong, FirstDisagreement}
 use Rattle.lost.specs.Positions.{positions}
 use Rattle.mending.specs.Mend.{mendRefusal}
 use Rattle.plan.specs.declared.Span.{Span}
-use Rattle.plan.specs.Plan.{foldRefusal, columnsRead, bytesRead, conversionBandwidth, plan, summed, wideShape}
+use Rattle.plan.specs.Plan.{foldRefusal, columnsRead, bytesRead, plan, summed, wideShape}
 use Rattle.plan.specs.Cost.{columnsNeeded, bandwidthNeeded}
 use Rattle.fold.specs.Fold.{foldOf, foldVerdict, foldFilled, cutOut, wideData, wideStripe, disagreement}
 use Rattle.record.specs.declared.read.Got.{Got}
@@ -41,6 +41,7 @@ use Rattle.answer.specs.Answer.{described}
 use Rattle.text.specs.Text.{textRoom}
 use Rattle.shelf.specs.Shelf.{shapeOf, spansRefusal, spansFilled}
 use Rattle.shelf.specs.Records.{readNumber, numbersOf}
+use Rattle.demands.specs.Calls.{PlanColumnsWritten, PlanColumnsSum, PlanBytesWritten, PlanBytesSum}
 use Rattle.demands.specs.Calls.{Names, Encodes, Mends, Folds, PlanRefuses, PlanColumns, PlanBytes, PlanSpans, Column, Reads, Writes, MendsRecord, Prints}
 use Rattle.demands.specs.Calls.{encodeTable, mendTable, planTable, foldTable, spansTable, readTable, writeTable, RecordJudged, mendedAnswer}
 use Rattle.demands.specs.Calls.{refusedAnswer, textWith}
@@ -54,6 +55,7 @@ use Rattle.mending.proofs.Outcome.{mended-one, counts-for-nothing}
 use Rattle.plan.proofs.Foldable.{foldable, prepared-b}
 use Rattle.plan.proofs.Counted.{columns-counted, bytes-counted}
 use Rattle.plan.proofs.Costs.{plain-columns, plain-bytes, prepared-bytes}
+use Rattle.plan.proofs.Refusals.{no-columns, no-bytes, no-columns-written, no-bytes-written}
 use Rattle.fold.proofs.Cut.{cut-length}
 use Rattle.fold.proofs.Shows.{named-few, folded-parity, one-shows}
 use Rattle.fold.proofs.Pointed.{stale-shows}
@@ -150,6 +152,19 @@ module _ (k r t l : ℕ) where
     demand-1-plan-counts v w p q h =
         let refused : foldRefusal asked n f ≡ 0 → ⊥ = λ z. h (sym (plan-table asked n f) ∙ z) in
         (p ∙ left (foldRefusal asked n f) _ 0 refused, q ∙ left (foldRefusal asked n f) _ 0 refused)
+
+    -- so are those of what it would write, and the sums
+    pub demand-1-plan-written : (v w x y : ℕ) → PlanColumnsWritten k r t l n f v → PlanColumnsSum k r t l n f w
+        → PlanBytesWritten k r t l n f x → PlanBytesSum k r t l n f y → (firstOf (planTable asked n f []) ≡ 0 → ⊥)
+        → (v ≡ 0) × ((w ≡ 0) × ((x ≡ 0) × (y ≡ 0)))
+    demand-1-plan-written v w x y p q a b h =
+        let refused : foldRefusal asked n f ≡ 0 → ⊥ = λ z. h (sym (plan-table asked n f) ∙ z) in (
+          p ∙ sym (no-columns-written asked n f refused),
+          (
+            q ∙ sym (ap₂ _+_ (no-columns asked n f refused) (no-columns-written asked n f refused)),
+            (a ∙ sym (no-bytes-written asked n f refused), b ∙ sym (ap₂ _+_ (no-bytes asked n f refused) (no-bytes-written asked n f refused))),
+          ),
+        )
 
     pub demand-1-plan-spans : (xs : List Span) (v : ℕ) (xs′ : List Span) → PlanSpans k r t l n f xs v xs′
         → (v ≡ firstOf (spansTable asked n f (length xs))) × ((v ≡ 0 → ⊥) → xs′ ≡ xs)
@@ -638,11 +653,3 @@ pub demand-3-cost-prepared : (k r t l n f : ℕ) → PlanRefuses k r t l n f 0 �
 demand-3-cost-prepared k r t l n f planned prepared w q =
     let b = prepared-b (shapeOf k r t l) n f (sym planned) prepared in
     ap (λ (x : ℕ). x * f) q ∙ prepared-bytes (shapeOf k r t l) n f (sym planned) b
-
--- The conversion bandwidth is the bytes read, which are reported, and so it is the published cost: of plain stripes and of prepared ones.
-pub demand-3-bandwidth : (k r t l n f : ℕ) → PlanRefuses k r t l n f 0 → (w : ℕ) → PlanBytes k r t l n f w
-    → (conversionBandwidth (shapeOf k r t l) n f ≡ w)
-    × ((t ≡ 0 → conversionBandwidth (shapeOf k r t l) n f ≡ columnsNeeded n k r f * l)
-    × ((t ≡ 0 → ⊥) → conversionBandwidth (shapeOf k r t l) n f * f ≡ bandwidthNeeded n k r f * l))
-demand-3-bandwidth k r t l n f planned w q =
-    (sym q, (λ e. plain-bytes (shapeOf k r t l) n f (sym planned) e, λ ne. demand-3-cost-prepared k r t l n f planned ne _ refl))

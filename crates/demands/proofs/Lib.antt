@@ -8,6 +8,7 @@ pub mod Mended
 pub mod Runs
 pub mod Sums
 pub mod Demands
+pub mod Bill
 pub mod Sittings
 pub mod Stale
 pub mod Worked

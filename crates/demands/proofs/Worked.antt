@@ -24,12 +24,13 @@ use Rattle.stripe.proofs.Codewords.{codeword-of}
 use Rattle.lost.specs.Positions.{positions, listRefusal}
 use Rattle.mending.specs.Mend.{mendRefusal, Restored, Mended}
 use Rattle.plan.specs.Plan.{foldRefusal, kindOf, columnSpans, kindSpans, spansFrom, plan, columnsEach, bytesEach, columnsRead, bytesRead}
+use Rattle.plan.specs.Plan.{columnsWritten, bytesWritten}
 use Rattle.equations.specs.Whole.{foldColumns}
 use Rattle.fold.specs.Fold.{foldByRows, foldByPoints, readParity, readRow, runShare, share, foldByte, foldStripes, foldOf, named, cutOut}
 use Rattle.points.specs.Folding.{joined, parts}
 use Rattle.number.specs.Number.{groups, groupsAt}
 use Rattle.record.specs.Reading.{firstOf, headRefusal, contentRefusal, positionsRefusal, afterPositions, stripeRefusal, readRefusal}
-use Rattle.demands.specs.Worked.{shape, stale, accepted, Holds, AllHold, worked, pointsPair, narrowPair, ours}
+use Rattle.demands.specs.Worked.{shape, stale, accepted, Holds, AllHold, worked, pointsPair, narrowPair, ours, bills}
 use Rattle.demands.proofs.Points.{one, two, narrow-one, narrow-two, folded, parity-columns, folded-columns}
 
 unfoldable pub small : List ℕ → Bool
@@ -184,6 +185,19 @@ ours-hold = (
     (
       parity-columns 2 (0x01 ∷ 0x02 ∷ []) 0xC9 0x98 0xC1 0x93 narrow-one,
       (parity-columns 2 (0x03 ∷ 0x04 ∷ []) 0x80 0x1B 0xE7 0x7B narrow-two, ((from-columns, refl, refl), ((from-data, refl, refl), tt))),
+    ),
+  ),
+)
+
+pub bills-hold : AllHold bills
+unfolding bills AllHold Holds foldRefusal shapeRefusal kindOf columnsEach bytesEach columnsRead bytesRead columnsWritten bytesWritten
+bills-hold = (
+  ((refl, refl, refl), (refl, refl, refl)),
+  (
+    ((refl, refl, refl), (refl, refl, refl)),
+    (
+      ((refl, refl, refl), (refl, refl, refl)),
+      (((refl, refl, refl), (refl, refl, refl)), (((refl, refl, refl), (refl, refl, refl)), tt)),
     ),
   ),
 )

@@ -19,6 +19,7 @@ use Rattle.lost.specs.Positions.{positions}
 use Rattle.mending.specs.Mend.{Restored, Mended}
 use Rattle.plan.specs.declared.Span.{Span}
 use Rattle.plan.specs.Plan.{stripesAllowed, newAllowed, foldRefusal, plan, spanAt, columnsRead, bytesRead}
+use Rattle.plan.specs.Plan.{columnsWritten, bytesWritten, accessCost, conversionBandwidth}
 use Rattle.fold.specs.Fold.{foldVerdict, foldFilled}
 use Rattle.record.specs.declared.read.Got.{Got}
 use Rattle.writing.specs.declared.Written.{Written}
@@ -64,6 +65,19 @@ PlanColumns k r t l n f v = v ≡ columnsRead (shapeOf k r t l) n f
 
 abbrev pub PlanBytes : ℕ → ℕ → ℕ → ℕ → ℕ → ℕ → ℕ → Type 0
 PlanBytes k r t l n f v = v ≡ bytesRead (shapeOf k r t l) n f
+
+-- `shelf_plan_columns_written`, `shelf_plan_columns_sum`, `shelf_plan_bytes_written` and `shelf_plan_bytes_sum` answer the number v
+abbrev pub PlanColumnsWritten : ℕ → ℕ → ℕ → ℕ → ℕ → ℕ → ℕ → Type 0
+PlanColumnsWritten k r t l n f v = v ≡ columnsWritten (shapeOf k r t l) n f
+
+abbrev pub PlanColumnsSum : ℕ → ℕ → ℕ → ℕ → ℕ → ℕ → ℕ → Type 0
+PlanColumnsSum k r t l n f v = v ≡ accessCost (shapeOf k r t l) n f
+
+abbrev pub PlanBytesWritten : ℕ → ℕ → ℕ → ℕ → ℕ → ℕ → ℕ → Type 0
+PlanBytesWritten k r t l n f v = v ≡ bytesWritten (shapeOf k r t l) n f
+
+abbrev pub PlanBytesSum : ℕ → ℕ → ℕ → ℕ → ℕ → ℕ → ℕ → Type 0
+PlanBytesSum k r t l n f v = v ≡ conversionBandwidth (shapeOf k r t l) n f
 
 -- `shelf_plan_spans` with the list xs: it answers v and leaves the list xs′
 abbrev pub PlanSpans : ℕ → ℕ → ℕ → ℕ → ℕ → ℕ → List Span → ℕ → List Span → Type 0

@@ -1,5 +1,5 @@
--- The starred examples of document 01, 'Worked stripes': one list, and what it means that an example holds. A second list has examples of
--- our own, with r above 3.
+-- The starred examples of document 01, 'Worked stripes': one list, and what it means that an example holds. Two further lists are
+-- our own: with r above 3, and the bills of folds.
 use mathlib.Core.Path.{_≡_}
 use mathlib.Core.List.{List, [], _∷_}
 use Prim.Native.Nat.{ℕ}
@@ -8,7 +8,7 @@ use Rattle.field.specs.Field.{_⊗_, gpow}
 use Rattle.stripe.specs.declared.Shape.{Shape}
 use Rattle.stripe.specs.Stripe.{parity}
 use Rattle.mending.specs.Mend.{Mended}
-use Rattle.plan.specs.Plan.{plan, columnsRead, bytesRead}
+use Rattle.plan.specs.Plan.{plan, columnsRead, columnsWritten, accessCost, bytesRead, bytesWritten, conversionBandwidth}
 use Rattle.fold.specs.Fold.{foldOf, cutOut}
 use Rattle.number.specs.Number.{written}
 use Rattle.record.specs.Reading.{readRefusal}
@@ -26,6 +26,8 @@ pub data Case : Type 0 where
   Parity : Shape → List ℕ → List ℕ → Case
   -- whole stripes folded to f parity columns, the wide parity, and how many bytes and columns the plan reads
   Fold : Shape → ℕ → List (List ℕ) → List ℕ → ℕ → ℕ → Case
+  -- a fold of n stripes to f parity columns: columns read, written and their sum, and so the bytes
+  Bill : Shape → ℕ → ℕ → ℕ → ℕ → ℕ → ℕ → ℕ → ℕ → Case
   -- the lost positions of a stripe, as pairs of bytes, and the stripe; the answer of mending, and the bytes that are left
   Mend : Shape → List ℕ → List ℕ → ℕ → List ℕ → Case
   -- a number of a record, and its bytes
@@ -41,6 +43,9 @@ Holds (Fold s f zss ps b c) =
     (foldOf s (length zss) f (cutOut s zss (plan s (length zss) f)) ≡ ps)
     × (bytesRead s (length zss) f ≡ b)
     × (columnsRead s (length zss) f ≡ c)
+Holds (Bill s n f a b c x y z) =
+    ((columnsRead s n f ≡ a) × (columnsWritten s n f ≡ b) × (accessCost s n f ≡ c))
+    × ((bytesRead s n f ≡ x) × (bytesWritten s n f ≡ y) × (conversionBandwidth s n f ≡ z))
 Holds (Mend s ls xs v ys) = Mended s ls xs v ys
 Holds (Written n xs) = written n ≡ xs
 Holds (Read xs v) = readRefusal xs 65536 258 ≡ v
@@ -99,4 +104,15 @@ ours =
     ∷ Parity (shape 2 4 0 1) (0x03 ∷ 0x04 ∷ []) (0x80 ∷ 0x1B ∷ 0xE7 ∷ 0x7B ∷ [])
     ∷ Fold (shape 4 4 0 1) 4 pointsPair (0x7C ∷ 0x16 ∷ 0xAB ∷ 0xC9 ∷ []) 8 8
     ∷ Fold (shape 2 4 0 1) 4 narrowPair (0x60 ∷ 0x9B ∷ 0x1C ∷ 0xE3 ∷ []) 4 4
+    ∷ []
+
+-- ---- our own: bills (document 02, request 2). Kind A, by rows and with r above 3, kind B, kind C, and a fold that is refused
+
+unfoldable pub bills : List Case
+bills =
+    Bill (shape 4 2 0 4096) 3 2 6 2 8 24576 8192 32768
+    ∷ Bill (shape 4 4 0 1) 2 4 8 4 12 8 4 12
+    ∷ Bill (shape 2 1 2 2) 2 2 6 2 8 8 4 12
+    ∷ Bill (shape 4 2 0 512) 3 3 12 3 15 6144 1536 7680
+    ∷ Bill (shape 4 2 0 512) 1 2 0 0 0 0 0 0
     ∷ []

@@ -8,14 +8,16 @@ use native.Mathlib.Omega.{arith}
 use lib.Dec.{leb}
 use mir.Syntax.{w64}
 use mir.Val.{Fits}
+use Rattle.field.proofs.Cases.{zero-or-not}
 use Rattle.stripe.specs.declared.Shape.{Shape}
 use Rattle.stripe.specs.Shape.{shapeRefusal, mostData, mostRows, mostParity, mostColumns, mostLength, mostRowsLength, mostParityLength}
 use Rattle.stripe.proofs.Allowed.{Allowed, Prepared, allowed, rows-most, prepared-by-rows}
 use Rattle.plan.specs.declared.Kind.{Kind}
 use Rattle.plan.specs.declared.Kind.the-variants.{A, B, C}
-use Rattle.plan.specs.Plan.{foldRefusal, kindOf, columnsEach, bytesEach}
+use Rattle.plan.specs.Plan.{foldRefusal, kindOf, columnsEach, bytesEach, accessCost, conversionBandwidth}
 use Rattle.plan.proofs.Foldable.{Foldable, foldable, plain-kind}
-use Rattle.plan.proofs.Costs.{bytes-read, bytes-most}
+use Rattle.plan.proofs.Costs.{columns-read, bytes-read, columns-written, bytes-written, bytes-most}
+use Rattle.plan.proofs.Refusals.{shape-passed, no-columns, no-bytes, no-columns-written, no-bytes-written}
 
 pub fits : (n : ℕ) → n < 2 ^ 64 → Fits w64 n
 fits n h = record { fits = h }
@@ -97,3 +99,22 @@ module _ (s : Shape) (n f : ℕ) (passed : foldRefusal s n f ≡ 0) where
   bytes-small =
       let h : n * s .k * s .l ≤ mostData * mostLength = mul-le-mul (foldable s n f passed .wide-most) (foldable s n f passed .shape .length-most) in
       omega (arith, bytes-most s n f, bytes-read s n f passed)
+
+-- ---- no sum of what is read and what is written reaches the cap
+
+module _ (s : Shape) (n f : ℕ) where
+  pub access-fits : accessCost s n f < 2 ^ 64
+  access-fits = go (zero-or-not (foldRefusal s n f))
+    where
+      go : (foldRefusal s n f ≡ 0) ⊎ (foldRefusal s n f ≡ 0 → ⊥) → accessCost s n f < 2 ^ 64
+      go (inl z) = omega (arith, columns-read s n f z, columns-small s n f z, columns-written s n f z, foldable s n f z .new-most)
+      go (inr h) = omega (arith, no-columns s n f h, no-columns-written s n f h)
+
+  pub bandwidth-fits : conversionBandwidth s n f < 2 ^ 64
+  bandwidth-fits = go (zero-or-not (foldRefusal s n f))
+    where
+      go : (foldRefusal s n f ≡ 0) ⊎ (foldRefusal s n f ≡ 0 → ⊥) → conversionBandwidth s n f < 2 ^ 64
+      go (inl z) =
+          let new = new-product s (shape-passed s n f z) f (foldable s n f z .new-most) in
+          omega (arith, bytes-read s n f z, bytes-small s n f z, bytes-written s n f z, new)
+      go (inr h) = omega (arith, no-bytes s n f h, no-bytes-written s n f h)

@@ -1,18 +1,20 @@
--- The plan's volume is what the papers find that a fold has to read, whichever of their cases applies, and never more than all the data.
+-- The plan's volume is what the papers find that a fold has to read, whichever of their cases applies, and never more than all the data; with
+-- what is written it is what they find in all.
 use mathlib.Core.Path.{_≡_, refl, sym, ap, ap₂, _∙_, subst}
 use mathlib.Core.Bool.{Bool, true, false, cond, _||_}
 use mathlib.Core.Logic.{_⊎_, inl, inr}
 use Prim.Native.Nat.{ℕ, _+_, _-_, _*_, _/_, _<_, _≤_, min, zero-le}
-use native.Mathlib.Nat.{mul-add, add-mul, mul-assoc, mul-comm, mul-le-mul-left, mul-le-mul-right}
+use native.Mathlib.Nat.{add-comm, mul-add, add-mul, mul-assoc, mul-comm, mul-le-mul-left, mul-le-mul-right}
 use native.Mathlib.Omega.{arith}
-use lib.Dec.{eqb, leb}
+use lib.Dec.{eqb, leb, ltb}
 use borrow.Author.Tests.{eqb-true, eq-eqb, le-ltb, lt-ltb, lt-leb, le-leb}
 use Rattle.field.proofs.Cases.{below-or-from}
 use Rattle.stripe.specs.declared.Shape.{Shape}
 use Rattle.stripe.proofs.Allowed.{Allowed}
 use Rattle.plan.specs.declared.Kind.{Kind}
 use Rattle.plan.specs.Plan.{kindOf, foldRefusal, columnsEach, bytesEach, columnsRead, bytesRead}
-use Rattle.plan.specs.Cost.{columnsNeeded, bandwidthNeeded}
+use Rattle.plan.specs.Plan.{columnsWritten, bytesWritten, accessCost, conversionBandwidth}
+use Rattle.plan.specs.Cost.{columnsNeeded, bandwidthNeeded, accessNeeded, transferNeeded}
 use Rattle.plan.proofs.Foldable.{IsA, IsB, IsC, Foldable, foldable, runs-whole}
 
 -- ---- the counts of a fold that is not refused
@@ -25,6 +27,14 @@ module _ (s : Shape) (n f : ℕ) (passed : foldRefusal s n f ≡ 0) where
   pub bytes-read : bytesRead s n f ≡ n * bytesEach (kindOf s f) s f
   unfolding bytesRead
   bytes-read = ap (λ (b : Bool). cond b (n * bytesEach (kindOf s f) s f) 0) (eq-eqb (foldRefusal s n f) 0 passed)
+
+  pub columns-written : columnsWritten s n f ≡ f
+  unfolding columnsWritten
+  columns-written = ap (λ (b : Bool). cond b f 0) (eq-eqb (foldRefusal s n f) 0 passed)
+
+  pub bytes-written : bytesWritten s n f ≡ f * s .l
+  unfolding bytesWritten
+  bytes-written = ap (λ (b : Bool). cond b (f * s .l) 0) (eq-eqb (foldRefusal s n f) 0 passed)
 
 pub refused-bytes : (s : Shape) (n f : ℕ) → eqb (foldRefusal s n f) 0 ≡ false → bytesRead s n f ≡ 0
 unfolding bytesRead
@@ -158,3 +168,50 @@ module _ (s : Shape) (n f : ℕ) (passed : foldRefusal s n f ≡ 0) (h : IsB s f
       (ap (λ (x : ℕ). s .r * x + s .k * (x - s .r)) (h .marked ∙ e) ∙ square (s .k) (s .r) (let g = h .prepared .gains in omega (arith, h .marked)))
       ∙ ap (λ (x : ℕ). n * x) (mul-assoc (s .k) (s .k) _ ∙ ap (λ (x : ℕ). s .k * x) (ap (λ (x : ℕ). x * (s .l / s .t)) (sym (h .marked ∙ e)) ∙ whole))
       ∙ sym (mul-assoc n (s .k) (s .l))
+
+-- ---- with what is written: 003, Theorem 15, and 002, formula (1), whole
+
+-- Theorem 15 is Theorem 12 and the f new columns
+access-parts : (n k r f : ℕ) → accessNeeded n k r f ≡ columnsNeeded n k r f + f
+unfolding accessNeeded columnsNeeded
+access-parts n k r f = go (ltb r f)
+  where
+    go : (b : Bool) → cond b (f + n * k) (f + n * min k f) ≡ cond b (n * k) (n * min k f) + f
+    go true = add-comm f (n * k)
+    go false = add-comm f (n * min k f)
+
+-- formula (1) is its reading part and the f new columns, f times over
+transfer-parts : (n k r f : ℕ) → transferNeeded n k r f ≡ bandwidthNeeded n k r f + f * f
+unfolding transferNeeded bandwidthNeeded
+transfer-parts n k r f = go (leb f r || leb k f)
+  where
+    go : (b : Bool) → cond b ((n * min k f + f) * f) (n * (r * f + k * (f - r)) + f * f) ≡ cond b (n * min k f * f) (n * (r * f + k * (f - r))) + f * f
+    go true = add-mul (n * min k f) f f
+    go false = refl
+
+module _ (s : Shape) (n f : ℕ) (passed : foldRefusal s n f ≡ 0) (plain : s .t ≡ 0) where
+  -- a fold of plain stripes accesses as many columns as Theorem 15 finds
+  pub plain-access : accessCost s n f ≡ accessNeeded n (s .k) (s .r) f
+  plain-access = ap₂ _+_ (plain-columns s n f passed plain) (columns-written s n f passed) ∙ sym (access-parts n (s .k) (s .r) f)
+
+  -- L bytes to a column
+  pub plain-transfer : conversionBandwidth s n f ≡ accessNeeded n (s .k) (s .r) f * s .l
+  plain-transfer =
+      ap₂ _+_ (plain-bytes s n f passed plain) (bytes-written s n f passed)
+      ∙ sym (add-mul (columnsNeeded n (s .k) (s .r) f) f (s .l)) ∙ ap (λ (x : ℕ). x * s .l) (sym (access-parts n (s .k) (s .r) f))
+
+square-scaled : (f l : ℕ) → f * l * f ≡ f * f * l
+square-scaled f l = mul-assoc f l f ∙ ap (λ (x : ℕ). f * x) (mul-comm l f) ∙ sym (mul-assoc f f l)
+
+module _ (s : Shape) (n f : ℕ) (passed : foldRefusal s n f ≡ 0) (h : IsB s f) where
+  -- a fold of prepared stripes accesses every column that it reads and the new ones
+  pub prepared-access : accessCost s n f ≡ n * (s .k + s .r) + f
+  unfolding columnsEach
+  prepared-access = ap₂ _+_ (columns-read s n f passed ∙ ap (λ (κ : Kind). n * columnsEach κ s f) (h .kind)) (columns-written s n f passed)
+
+  -- it transfers as many bytes as formula (1) finds
+  pub prepared-transfer : conversionBandwidth s n f * f ≡ transferNeeded n (s .k) (s .r) f * s .l
+  prepared-transfer =
+      add-mul (bytesRead s n f) (bytesWritten s n f) f
+      ∙ ap₂ _+_ (prepared-bytes s n f passed h) (ap (λ (x : ℕ). x * f) (bytes-written s n f passed) ∙ square-scaled f (s .l))
+      ∙ sym (add-mul (bandwidthNeeded n (s .k) (s .r) f) (f * f) (s .l)) ∙ ap (λ (x : ℕ). x * s .l) (sym (transfer-parts n (s .k) (s .r) f))

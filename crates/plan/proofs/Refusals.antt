@@ -6,6 +6,7 @@ use borrow.Author.Tests.{eq-eqb, ne-eqb}
 use Rattle.stripe.specs.declared.Shape.{Shape}
 use Rattle.stripe.specs.Shape.{shapeRefusal, noShape}
 use Rattle.plan.specs.Plan.{foldRefusal, stripesAllowed, newAllowed, wideShape, wideAnswer, columnsEach, bytesEach, columnsRead, bytesRead, kindOf}
+use Rattle.plan.specs.Plan.{columnsWritten, bytesWritten}
 use Rattle.plan.proofs.Foldable.{all-passed}
 
 module _ (s : Shape) (n f : ℕ) where
@@ -35,7 +36,7 @@ module _ (s : Shape) (n f : ℕ) where
   unfolding foldRefusal
   shape-passed e = all-passed (shapeRefusal s) (stripesAllowed (s .k) (s .r) n) (newAllowed (s .r) (s .t) f) e .0
 
-  -- what is refused reads nothing
+  -- what is refused reads and writes nothing
   module _ (refused : foldRefusal s n f ≡ 0 → ⊥) where
     pub no-columns : 0 ≡ columnsRead s n f
     unfolding columnsRead
@@ -44,6 +45,14 @@ module _ (s : Shape) (n f : ℕ) where
     pub no-bytes : 0 ≡ bytesRead s n f
     unfolding bytesRead
     no-bytes = sym (ap (λ (b : Bool). cond b (n * bytesEach (kindOf s f) s f) 0) (ne-eqb (foldRefusal s n f) 0 refused))
+
+    pub no-columns-written : 0 ≡ columnsWritten s n f
+    unfolding columnsWritten
+    no-columns-written = sym (ap (λ (b : Bool). cond b f 0) (ne-eqb (foldRefusal s n f) 0 refused))
+
+    pub no-bytes-written : 0 ≡ bytesWritten s n f
+    unfolding bytesWritten
+    no-bytes-written = sym (ap (λ (b : Bool). cond b (f * s .l) 0) (ne-eqb (foldRefusal s n f) 0 refused))
 
     pub no-shape : wideAnswer s n f ≡ noShape
     unfolding wideAnswer

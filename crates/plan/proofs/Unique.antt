@@ -17,6 +17,8 @@ use Rattle.plan.proofs.counts.columns_read as columns-read
 use Rattle.plan.proofs.counts.columns_read.Reads as columns-read-reads
 use Rattle.plan.proofs.counts.bytes_read as bytes-read
 use Rattle.plan.proofs.counts.bytes_read.Reads as bytes-read-reads
+use Rattle.plan.proofs.counts.bill_of as bill-of
+use Rattle.plan.proofs.counts.bill_of.Reads as bill-of-reads
 use Rattle.plan.proofs.counts.Columns.plus as columns-plus
 use Rattle.plan.proofs.counts.Columns.plus.Reads as columns-plus-reads
 use Rattle.plan.proofs.counts.Columns.number as columns-number
@@ -56,6 +58,10 @@ columns-read-unique κs a r r′ s s′ p q = same-columns r r′ (p ∙ sym q)
 pub bytes-read-unique : (κs : Lfts 0) (a : ArgsD bytes-read.signature κs) (r r′ : ResD bytes-read.signature κs) (s s′ : AtExit bytes-read.ended κs)
     → bytes-read-reads.Post κs a r s → bytes-read-reads.Post κs a r′ s′ → r ≡ r′
 bytes-read-unique κs a r r′ s s′ p q = same-bytes r r′ (p ∙ sym q)
+
+pub bill-of-unique : (κs : Lfts 0) (a : ArgsD bill-of.signature κs) (r r′ : ResD bill-of.signature κs) (s s′ : AtExit bill-of.ended κs)
+    → bill-of-reads.Post κs a r s → bill-of-reads.Post κs a r′ s′ → r ≡ r′
+bill-of-unique κs a r r′ s s′ p q = p ∙ sym q
 
 pub columns-plus-unique : (κs : Lfts 0) (a : ArgsD columns-plus.signature κs) (r r′ : ResD columns-plus.signature κs) (s s′ : AtExit columns-plus.ended κs)
     → columns-plus-reads.Post κs a r s → columns-plus-reads.Post κs a r′ s′ → r ≡ r′

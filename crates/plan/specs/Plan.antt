@@ -1,4 +1,4 @@
--- The plan of a fold (document 01, 'Folding'): which folds are refused, what a fold reads of each stripe, and how much that is.
+-- The plan of a fold (document 01, 'Folding'): which folds are refused, what a fold reads of each stripe, and how much it reads and writes.
 -- N stripes of shape s are folded into one wide stripe with f parity columns.
 use Prim.Native.Nat.{ℕ, zero, suc, _+_, _-_, _*_, _/_}
 use mathlib.Core.Bool.{Bool, cond, _&&_, _||_}
@@ -94,9 +94,21 @@ columnsRead s n f = cond (eqb (foldRefusal s n f) 0) (n * columnsEach (kindOf s 
 unfoldable pub bytesRead : Shape → ℕ → ℕ → ℕ
 bytesRead s n f = cond (eqb (foldRefusal s n f) 0) (n * bytesEach (kindOf s f) s f) 0
 
--- the conversion bandwidth is the number of bytes read
+-- how many columns the fold writes, those of the new parity; none where it is refused
+unfoldable pub columnsWritten : Shape → ℕ → ℕ → ℕ
+columnsWritten s n f = cond (eqb (foldRefusal s n f) 0) f 0
+
+-- how many bytes the fold writes, f*L; none where it is refused
+unfoldable pub bytesWritten : Shape → ℕ → ℕ → ℕ
+bytesWritten s n f = cond (eqb (foldRefusal s n f) 0) (f * s .l) 0
+
+-- the access cost: columns read and columns written (000, II-B; 003; document 02, request 2)
+abbrev pub accessCost : Shape → ℕ → ℕ → ℕ
+accessCost s n f = columnsRead s n f + columnsWritten s n f
+
+-- the conversion bandwidth: bytes read and bytes written (000, Definition 2; document 02, request 2)
 abbrev pub conversionBandwidth : Shape → ℕ → ℕ → ℕ
-conversionBandwidth s n f = bytesRead s n f
+conversionBandwidth s n f = bytesRead s n f + bytesWritten s n f
 
 -- the shape of the wide stripe: plain, all data columns, f parity columns, L bytes to a column
 abbrev pub wideShape : Shape → ℕ → ℕ → Shape

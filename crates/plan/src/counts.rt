@@ -1,23 +1,44 @@
-// How much a plan reads. Disks accessed and data transferred are counted apart: each is added only within its own kind. The field of
-// each is this module's own, so that one is made only by counting a plan. Every function is total: what is refused reads nothing.
+// How much a fold reads and writes. Disks accessed and data transferred are counted apart: each is added only within its own kind. The
+// field of each is this module's own, so that one is made only by counting a plan. Every function is total: what is refused reads and
+// writes nothing.
 ghost use mathlib.Core.Path.{_≡_};
 ghost use Prim.Native.Nat.{_+_, _≤_};
 ghost use Rattle.stripe.specs.Shape.{shapeRefusal, mostParity};
 ghost use lib.Dec.{eqb};
-ghost use Rattle.plan.specs.Plan.{kindOf, columnsEach, bytesEach, columnsRead, bytesRead};
-ghost use Rattle.plan.specs.Counts.{capped};
+ghost use Rattle.plan.specs.Plan.{kindOf, columnsEach, bytesEach, columnsRead, bytesRead, columnsWritten, bytesWritten};
+ghost use Rattle.plan.specs.Counts.{capped, billOf};
 use crate::Kind;
 use crate::fold_refusal;
 use crate::kind_of;
 use stripe::Shape;
 
-// A number of columns read.
+// A number of columns.
 #[repr(C)]
 pub struct Columns(u64);
 
-// A number of bytes read.
+// A number of bytes.
 #[repr(C)]
 pub struct Bytes(u64);
+
+// Columns read, columns written, and their sum.
+pub struct ColumnBill {
+    pub read: Columns,
+    pub written: Columns,
+    pub sum: Columns,
+}
+
+// Bytes read, bytes written, and their sum.
+pub struct ByteBill {
+    pub read: Bytes,
+    pub written: Bytes,
+    pub sum: Bytes,
+}
+
+// What a fold costs, columns and bytes apart.
+pub struct Bill {
+    pub columns: ColumnBill,
+    pub bytes: ByteBill,
+}
 
 impl Columns {
     // The sum, or 2^64-1 where it does not fit.
@@ -111,4 +132,46 @@ pub fn bytes_read(s: Shape, stripes: usize, f: usize) -> Bytes
         return Bytes(0);
     }
     Bytes(stripes as u64 * bytes_each(s, f).0)
+}
+
+// How many columns the fold writes, those of the new parity; none where it is refused.
+fn columns_written(s: Shape, stripes: usize, f: usize) -> Columns
+    ensures { λ v. ⌜ v .0 ≡ columnsWritten s stripes f ⌝ }
+{
+    if fold_refusal(s, stripes, f) != 0 {
+        return Columns(0);
+    }
+    Columns(f as u64)
+}
+
+// How many bytes the fold writes, L to a column; none where it is refused.
+fn bytes_written(s: Shape, stripes: usize, f: usize) -> Bytes
+    ensures { λ v. ⌜ v .0 ≡ bytesWritten s stripes f ⌝ }
+{
+    if fold_refusal(s, stripes, f) != 0 {
+        return Bytes(0);
+    }
+    Bytes((f * s.l) as u64)
+}
+
+// What the fold costs: read, written, and the sum of the two; nothing where it is refused.
+pub fn bill_of(s: Shape, stripes: usize, f: usize) -> Bill
+    ensures { λ v. ⌜ v ≡ billOf s stripes f ⌝ }
+{
+    let columns = columns_read(s, stripes, f);
+    let new_columns = columns_written(s, stripes, f);
+    let bytes = bytes_read(s, stripes, f);
+    let new_bytes = bytes_written(s, stripes, f);
+    Bill {
+        columns: ColumnBill {
+            read: columns,
+            written: new_columns,
+            sum: columns.plus(new_columns),
+        },
+        bytes: ByteBill {
+            read: bytes,
+            written: new_bytes,
+            sum: bytes.plus(new_bytes),
+        },
+    }
 }

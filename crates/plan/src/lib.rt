@@ -1,5 +1,5 @@
 // The plan of a fold: N stripes of one shape become one wide stripe with f parity columns. The plan says which bytes a fold reads;
-// module `counts` says how many. Every function is total: what is refused reads nothing.
+// module `counts` says how many, and how many it writes. Every function is total: what is refused reads and writes nothing.
 ghost use mathlib.Core.Path.{_≡_};
 ghost use Prim.Native.Nat.{_*_, _<_, _≤_};
 ghost use Rattle.stripe.specs.Shape.{shapeRefusal, mostData, mostParity, mostColumns};

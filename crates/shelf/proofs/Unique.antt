@@ -30,6 +30,14 @@ use Rattle.shelf.proofs.shelf_plan_columns_read as shelf-plan-columns-r
 use Rattle.shelf.proofs.shelf_plan_columns_read.Reads as shelf-plan-columns-read-reads
 use Rattle.shelf.proofs.shelf_plan_bytes_read as shelf-plan-bytes-read
 use Rattle.shelf.proofs.shelf_plan_bytes_read.Reads as shelf-plan-bytes-read-reads
+use Rattle.shelf.proofs.shelf_plan_columns_written as shelf-plan-columns-written
+use Rattle.shelf.proofs.shelf_plan_columns_written.Reads as shelf-plan-columns-written-reads
+use Rattle.shelf.proofs.shelf_plan_columns_sum as shelf-plan-columns-sum
+use Rattle.shelf.proofs.shelf_plan_columns_sum.Reads as shelf-plan-columns-sum-reads
+use Rattle.shelf.proofs.shelf_plan_bytes_written as shelf-plan-bytes-written
+use Rattle.shelf.proofs.shelf_plan_bytes_written.Reads as shelf-plan-bytes-written-reads
+use Rattle.shelf.proofs.shelf_plan_bytes_sum as shelf-plan-bytes-sum
+use Rattle.shelf.proofs.shelf_plan_bytes_sum.Reads as shelf-plan-bytes-sum-reads
 use Rattle.shelf.proofs.shelf_plan_spans as shelf-plan-spans
 use Rattle.shelf.proofs.check.shelf_check as shelf-check
 use Rattle.shelf.proofs.check.shelf_check.Reads as shelf-check-reads
@@ -59,6 +67,26 @@ shelf-plan-columns-read-unique κs a r r′ s s′ p q = same-columns r r′ (p 
 pub shelf-plan-bytes-read-unique : (κs : Lfts 0) (a : ArgsD shelf-plan-bytes-read.signature κs) (r r′ : ResD shelf-plan-bytes-read.signature κs)
     (s s′ : AtExit shelf-plan-bytes-read.ended κs) → shelf-plan-bytes-read-reads.Post κs a r s → shelf-plan-bytes-read-reads.Post κs a r′ s′ → r ≡ r′
 shelf-plan-bytes-read-unique κs a r r′ s s′ p q = same-bytes r r′ (p ∙ sym q)
+
+pub shelf-plan-columns-written-unique : (κs : Lfts 0) (a : ArgsD shelf-plan-columns-written.signature κs) (r r′ : ResD shelf-plan-columns-written.signature κs)
+    (s s′ : AtExit shelf-plan-columns-written.ended κs)
+    → shelf-plan-columns-written-reads.Post κs a r s → shelf-plan-columns-written-reads.Post κs a r′ s′ → r ≡ r′
+shelf-plan-columns-written-unique κs a r r′ s s′ p q = same-columns r r′ (p ∙ sym q)
+
+pub shelf-plan-columns-sum-unique : (κs : Lfts 0) (a : ArgsD shelf-plan-columns-sum.signature κs) (r r′ : ResD shelf-plan-columns-sum.signature κs)
+    (s s′ : AtExit shelf-plan-columns-sum.ended κs)
+    → shelf-plan-columns-sum-reads.Post κs a r s → shelf-plan-columns-sum-reads.Post κs a r′ s′ → r ≡ r′
+shelf-plan-columns-sum-unique κs a r r′ s s′ p q = same-columns r r′ (p ∙ sym q)
+
+pub shelf-plan-bytes-written-unique : (κs : Lfts 0) (a : ArgsD shelf-plan-bytes-written.signature κs) (r r′ : ResD shelf-plan-bytes-written.signature κs)
+    (s s′ : AtExit shelf-plan-bytes-written.ended κs)
+    → shelf-plan-bytes-written-reads.Post κs a r s → shelf-plan-bytes-written-reads.Post κs a r′ s′ → r ≡ r′
+shelf-plan-bytes-written-unique κs a r r′ s s′ p q = same-bytes r r′ (p ∙ sym q)
+
+pub shelf-plan-bytes-sum-unique : (κs : Lfts 0) (a : ArgsD shelf-plan-bytes-sum.signature κs) (r r′ : ResD shelf-plan-bytes-sum.signature κs)
+    (s s′ : AtExit shelf-plan-bytes-sum.ended κs)
+    → shelf-plan-bytes-sum-reads.Post κs a r s → shelf-plan-bytes-sum-reads.Post κs a r′ s′ → r ≡ r′
+shelf-plan-bytes-sum-unique κs a r r′ s s′ p q = same-bytes r r′ (p ∙ sym q)
 
 pub shelf-mend-unique : (κs : Lfts 2) (a : ArgsD shelf-mend.signature κs) (r r′ : ResD shelf-mend.signature κs)
     (s s′ : AtExit shelf-mend.ended κs) → shelf-mend-reads.Post κs a r s → shelf-mend-reads.Post κs a r′ s′

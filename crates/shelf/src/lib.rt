@@ -9,6 +9,7 @@ use mending::mend;
 use plan::Span;
 use plan::counts::Bytes;
 use plan::counts::Columns;
+use plan::counts::bill_of;
 use plan::counts::bytes_read;
 use plan::counts::columns_read;
 use plan::fold_refusal;
@@ -18,6 +19,7 @@ ghost use mathlib.Core.Path.{_≡_};
 ghost use lib.ListN.{length};
 ghost use Rattle.coding.specs.Encode.{encodeRefusal, encoded};
 ghost use Rattle.plan.specs.Plan.{foldRefusal, columnsRead, bytesRead, spanAt};
+ghost use Rattle.plan.specs.Plan.{columnsWritten, bytesWritten, accessCost, conversionBandwidth};
 ghost use Rattle.fold.specs.Fold.{foldVerdict, foldFilled};
 ghost use Rattle.mending.specs.Mend.{Mended};
 ghost use Rattle.shelf.specs.Shelf.{shapeOf, spansAnswer, Planned};
@@ -113,6 +115,70 @@ pub extern "C" fn shelf_plan_bytes_read(
 {
     let s = shape_of(k, r, t, l);
     bytes_read(s, stripes as usize, f as usize)
+}
+
+// How many columns the fold writes; 0 where it is refused.
+#[no_mangle]
+pub extern "C" fn shelf_plan_columns_written(
+    k: u64,
+    r: u64,
+    t: u64,
+    l: u64,
+    stripes: u64,
+    f: u64,
+) -> Columns
+    ensures { λ v. ⌜ v .0 ≡ columnsWritten (shapeOf k r t l) stripes f ⌝ }
+{
+    let s = shape_of(k, r, t, l);
+    bill_of(s, stripes as usize, f as usize).columns.written
+}
+
+// How many columns the fold reads and writes; 0 where it is refused.
+#[no_mangle]
+pub extern "C" fn shelf_plan_columns_sum(
+    k: u64,
+    r: u64,
+    t: u64,
+    l: u64,
+    stripes: u64,
+    f: u64,
+) -> Columns
+    ensures { λ v. ⌜ v .0 ≡ accessCost (shapeOf k r t l) stripes f ⌝ }
+{
+    let s = shape_of(k, r, t, l);
+    bill_of(s, stripes as usize, f as usize).columns.sum
+}
+
+// How many bytes the fold writes; 0 where it is refused.
+#[no_mangle]
+pub extern "C" fn shelf_plan_bytes_written(
+    k: u64,
+    r: u64,
+    t: u64,
+    l: u64,
+    stripes: u64,
+    f: u64,
+) -> Bytes
+    ensures { λ v. ⌜ v .0 ≡ bytesWritten (shapeOf k r t l) stripes f ⌝ }
+{
+    let s = shape_of(k, r, t, l);
+    bill_of(s, stripes as usize, f as usize).bytes.written
+}
+
+// How many bytes the fold reads and writes; 0 where it is refused.
+#[no_mangle]
+pub extern "C" fn shelf_plan_bytes_sum(
+    k: u64,
+    r: u64,
+    t: u64,
+    l: u64,
+    stripes: u64,
+    f: u64,
+) -> Bytes
+    ensures { λ v. ⌜ v .0 ≡ conversionBandwidth (shapeOf k r t l) stripes f ⌝ }
+{
+    let s = shape_of(k, r, t, l);
+    bill_of(s, stripes as usize, f as usize).bytes.sum
 }
 
 // What is answered to a call for the spans of a plan: the refusal, and how many spans are written.

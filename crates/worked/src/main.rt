@@ -1,12 +1,13 @@
 // Runs the worked examples of document 01 through the library and prints what it answers; `stdout` has what the document says.
 // The starred ones are also a theorem over the definitions (crate `demands`). The stripes with t=3 stand for what the document's
-// own examples can't show, a piggyback that is always taken from run 0; their bytes come from the second program.
+// own examples can't show, a piggyback that is always taken from run 0; their bytes come from the second program. The bills are our own.
 use checking::Wrong;
 use checking::first_wrong;
 use coding::encode::encode;
 use field::Gf;
 use fold::fold;
 use number::write_number;
+use plan::counts::bill_of;
 use plan::counts::bytes_read;
 use plan::counts::columns_read;
 use plan::fold_refusal;
@@ -105,19 +106,36 @@ fn check(s: Shape, data: &[u8], parity: &[u8]) {
     }
 }
 
+fn claimed(words: &[u8], holds: bool, n: usize) {
+    text(words);
+    if !holds {
+        text(b"not ");
+    }
+    number(n);
+}
+
 fn plan(s: Shape, stripes: usize, f: usize, bytes: usize) {
     shape(s);
     named(b" N=", stripes);
     named(b" f=", f);
     named(b": ", fold_refusal(s, stripes, f) as usize);
-    if bytes_read(s, stripes, f).is(bytes) {
-        text(b", ");
-    } else {
-        text(b", not ");
-    }
-    number(bytes);
+    claimed(b", ", bytes_read(s, stripes, f).is(bytes), bytes);
     named(b" bytes, ", columns_read(s, stripes, f).number());
     text(b" columns\n");
+}
+
+fn billed(s: Shape, stripes: usize, f: usize, read: usize, written: usize, sum: usize) {
+    let whole = bill_of(s, stripes, f);
+    shape(s);
+    named(b" N=", stripes);
+    named(b" f=", f);
+    named(b": columns ", whole.columns.read.number());
+    named(b" + ", whole.columns.written.number());
+    named(b" = ", whole.columns.sum.number());
+    claimed(b", bytes ", whole.bytes.read.is(read), read);
+    claimed(b" + ", whole.bytes.written.is(written), written);
+    claimed(b" = ", whole.bytes.sum.is(sum), sum);
+    text(b"\n");
 }
 
 fn folded(s: Shape, f: usize, read: &[u8], parity: &mut [u8]) {
@@ -237,6 +255,14 @@ fn plans() {
     plan(Shape::new(4, 2, 0, 512), 1, 2, 0);
 }
 
+fn bills() {
+    billed(Shape::new(4, 2, 0, 4096), 3, 2, 24576, 8192, 32768);
+    billed(Shape::new(4, 4, 0, 1), 2, 4, 8, 4, 12);
+    billed(Shape::new(2, 1, 2, 2), 2, 2, 8, 4, 12);
+    billed(Shape::new(4, 2, 0, 512), 3, 3, 6144, 1536, 7680);
+    billed(Shape::new(4, 2, 0, 512), 1, 2, 0, 0, 0);
+}
+
 fn folds() {
     let mut two = [0u8; 2];
     folded(Shape::new(2, 3, 0, 1), 2, b"\x03\x05\x07\x0b", &mut two);
@@ -277,6 +303,7 @@ fn main() {
     prepared();
     three_runs();
     plans();
+    bills();
     folds();
     columns();
     records();

@@ -19,7 +19,7 @@ def first_error(log):
 
 
 def each_of(edit):
-    """The functions that an edit makes wrong each by itself, none of which calls another: its first line starts 'Each of F, G: '. Else nothing."""
+    """The functions that an edit makes wrong, each by itself: its first line starts 'Each of F, G: '. Else nothing."""
     named = re.match(r'Each of ([\w:, ]+): ', open(edit, encoding='utf-8').readline())
     return [name.strip() for name in named.group(1).split(',')] if named else []
 

@@ -1,5 +1,7 @@
 // The answer of the mending program: the text that it prints, written over the front of what is lent; what follows stays. The answer
 // is the length of the text; where there is no room for it, it is 0, and nothing is written.
+#![tactic(auto)]
+
 use crate::mended::{blank_list, blank_stripe, read_and_mend};
 use text::{write_refusal, write_text};
 

@@ -11,7 +11,7 @@ use record::read::read_record;
 use stripe::Shape;
 
 // What mending a record reports: 0, the shape and the number of lost columns; or a refusal, and zeros.
-#[derive(Drop)]
+#[derive(Clone, Copy)]
 pub struct Answer {
     pub number: u32,
     pub shape: Shape,

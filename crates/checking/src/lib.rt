@@ -1,6 +1,8 @@
 // The check of a stripe: where its parity first disagrees with the parity by definition. First it is asked whether the parity agrees at
 // all, and then, if it does not, where. With r up to 3 that is done in `by_rows`, and with r above 3 in `by_points`. Each of the two is
 // called from two functions: so it keeps a stack frame of its own, and the buffers of the two never stand on the stack together.
+#![tactic(auto)]
+
 mod by_points;
 mod by_rows;
 mod compare;
@@ -18,7 +20,7 @@ use stripe::column::lent_refusal;
 use stripe::{MOST_ROWS, Shape};
 
 // Nowhere, or at a parity column and a place in it, or a refusal.
-#[derive(Drop)]
+#[derive(Clone, Copy)]
 pub enum Wrong {
     Nowhere,
     At(usize, usize),

@@ -1,5 +1,7 @@
 // The constants of stripes given by check equations: what each byte that is read counts in each byte that is made. They are the weights of
 // crate `lagrange` at the points of the columns, and depend on the numbers of the shape alone.
+#![tactic(auto)]
+
 ghost use Rattle.std.specs.Prelude.{◌≡◌, ◌+◌, ◌-◌, ◌*◌, ◌<◌, ◌≤◌, ◌%◌, length};
 ghost use Rattle.field.specs.Field.{gpow};
 ghost use Rattle.field.specs.Bytes.{tabulate};

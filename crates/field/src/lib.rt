@@ -1,11 +1,13 @@
 // The field of 256 elements: bytes, whose sum is the exclusive or and whose product is reduced by the polynomial 11D.
 // Every function is total. Products, inverses and powers are worked out by shifting and reducing; no contract tells how.
+#![tactic(auto)]
+
 ghost use Rattle.std.specs.Prelude.{◌≡◌, ◌*◌, ◌/◌, ◌%◌, ◌<◌};
 ghost use Rattle.field.specs.Field.{◌⊕◌, ◌⊗◌, gpow, inverse_of, polynomial, generator, order, times};
 ghost use Rattle.field.specs.Euclid.{Rest};
 
 // An element. Bit i of the byte is the coefficient of x^i.
-#[derive(Drop)]
+#[derive(Clone, Copy)]
 pub struct Gf(pub u8);
 
 impl Gf {
@@ -19,7 +21,7 @@ impl Gf {
     // The constant POLYNOMIAL, which is the definition's.
     pub fn polynomial() -> u16
         ensures value { result ≡ polynomial }
-        ensures* result_value { do ⌜ result ≡ (← (⟦Gf::POLYNOMIAL⟧).entry) ⌝ }
+        ensures named { result ≡ Gf.POLYNOMIAL }
     {
         Gf::POLYNOMIAL
     }
@@ -27,7 +29,7 @@ impl Gf {
     // The constant GENERATOR, which is the definition's.
     pub fn generator() -> u8
         ensures value { result ≡ generator }
-        ensures* result_value { do ⌜ result ≡ (← (⟦Gf::GENERATOR⟧).entry) ⌝ }
+        ensures named { result ≡ Gf.GENERATOR }
     {
         Gf::GENERATOR
     }
@@ -35,7 +37,7 @@ impl Gf {
     // The constant ORDER, which is the definition's.
     pub fn order() -> usize
         ensures value { result ≡ order }
-        ensures* result_value { do ⌜ result ≡ (← (⟦Gf::ORDER⟧).entry) ⌝ }
+        ensures named { result ≡ Gf.ORDER }
     {
         Gf::ORDER
     }

@@ -1,4 +1,6 @@
 // The fold: N stripes of one shape become one wide stripe with f parity columns. It is lent the joined bytes of the plan alone.
+#![tactic(auto)]
+
 ghost use Rattle.std.specs.Prelude.{◌≡◌, ◌*◌, length};
 ghost use Rattle.plan.specs.Plan.{fold_refusal, bytes_read};
 ghost use Rattle.fold.specs.Fold.{fold_of, fold_verdict, fold_filled};

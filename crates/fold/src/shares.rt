@@ -4,7 +4,7 @@ ghost use Rattle.std.specs.Prelude.{◌≡◌, ◌+◌, ◌≤◌, length};
 ghost use Rattle.fold.specs.Shares.{share_at, Within, stepped, Summed};
 
 // What a stripe adds to a run: bytes read of it, from an offset on; bytes of its rows, from an offset on; or both.
-#[derive(Drop)]
+#[derive(Clone, Copy)]
 pub enum Share {
     Read(usize),
     Row(usize),

@@ -7,7 +7,7 @@ use field::Gf;
 use steps::mask;
 
 // What a map makes of 1, 2, 4 and so on.
-#[derive(Drop)]
+#[derive(Clone, Copy)]
 struct Images {
     t0: u8,
     t1: u8,

@@ -1,6 +1,8 @@
 // The weights by which bytes at some points make up bytes at others: Lagrange's polynomials. Sixteen of the others are taken at a time, one
 // to a lane. A row is the product of what they are apart from the points before its own and from those after it, times a constant of the
 // row.
+#![tactic(auto)]
+
 mod inverse;
 
 ghost use Rattle.std.specs.Prelude.{◌≡◌, ℕ, ◌+◌, ◌*◌, ◌<◌, ◌≤◌, length, get_or};

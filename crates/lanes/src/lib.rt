@@ -1,6 +1,8 @@
 // Loops over byte slices, a field element at each place. Of two slices each loop runs to the end of the shorter, and the
 // rest stays. The forms are those that the compiler turns into vector code. Steps of rows stand in `steps`, products in `products`
 // and `weights`, and a loop that serves one crate alone stands there.
+#![tactic(auto)]
+
 ghost use Rattle.std.specs.Prelude.{◌≡◌, ◌⊎◌, ℕ, ◌≤◌};
 ghost use Rattle.field.specs.Field.{◌⊕◌};
 ghost use Rattle.lanes.specs.Lanes.{onto, all_zero};

@@ -1,4 +1,6 @@
 // The list of lost positions as a caller lends it, pairs of bytes, low byte first: judged whole, and read into one small record.
+#![tactic(auto)]
+
 ghost use Rattle.std.specs.Prelude.{◌≡◌, ◌+◌, ◌*◌, ◌<◌};
 ghost use Rattle.stripe.specs.Stripe.{ascending};
 ghost use Rattle.lost.specs.Positions.{positions, list_refusal};
@@ -10,7 +12,7 @@ use stripe::MOST_PARITY;
 pub const CAPACITY: usize = MOST_PARITY;
 
 // Up to CAPACITY lost positions, ascending, and their number; zero stands after the last.
-#[derive(Drop)]
+#[derive(Clone, Copy)]
 pub struct Lost {
     pub at: [usize; CAPACITY],
     pub count: usize,

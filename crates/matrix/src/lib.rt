@@ -3,6 +3,8 @@
 // bit of the group's four constants. No product is ever formed. Columns are taken in slabs of 28, whose sums fit a local table.
 // Throughout, t is that table, es holds the numbers of the sums, by row, group and bit, and cs holds the numbers of the columns used:
 // column c starts at from + c * stride. One row alone is formed in `one`.
+#![tactic(auto)]
+
 mod one;
 
 ghost use Rattle.std.specs.Prelude.{◌≡◌, true, cond, ◌⊎◌, ℕ, ◌+◌, ◌*◌, ◌/◌, ◌%◌, ◌<◌, ◌≤◌, leb, length, get_or};
@@ -358,7 +360,7 @@ fn fill(
 // ---- numbers that fit
 
 // Whether the numbers are allowed.
-fn numbers_fit_lem(rows: usize, m: usize, count: usize) -> bool
+fn numbers_fit(rows: usize, m: usize, count: usize) -> bool
     ensures { result ≡ numbers_fit rows m count }
 {
     if rows < 1 {

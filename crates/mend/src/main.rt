@@ -1,5 +1,7 @@
 // The mending program: one record on standard input, of which one byte more than is allowed is read, and its text on standard output.
 // Where reading or writing fails a line on standard error says so.
+#![tactic(auto)]
+
 ghost use Rattle.std.specs.Prelude.{◌≡◌, length};
 
 // Room for any text.

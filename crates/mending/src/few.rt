@@ -6,7 +6,7 @@ use lost::Lost;
 use stripe::MOST_ROWS;
 
 // Up to MOST_ROWS lost positions, ascending, and their number; zero stands after the last.
-#[derive(Drop)]
+#[derive(Clone, Copy)]
 pub struct Few {
     pub at: [usize; MOST_ROWS],
     pub count: usize,

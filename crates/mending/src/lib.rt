@@ -1,5 +1,7 @@
 // Mending: the lost columns of a stripe restored, or refused where no codeword agrees with the columns that survive.
 // Nothing is written before everything is judged.
+#![tactic(auto)]
+
 mod few;
 mod gather;
 mod run;

@@ -13,7 +13,7 @@ use field::Gf;
 use stripe::{MOST_ROWS, Shape};
 
 // The first `count` lost positions are data columns, counted from `pivot` on; rows first, first + step, .. are solved by.
-#[derive(Drop)]
+#[derive(Clone, Copy)]
 pub struct System {
     pub lost: Few,
     pub count: usize,

@@ -1,5 +1,7 @@
 // The mending program on many records: each argument names a file, which is what the program proper would read on standard input.
 // Where a file can't be opened or read, or the text not be written, a line on standard error says which and why.
+#![tactic(auto)]
+
 ghost use Rattle.std.specs.Prelude.{◌≡◌, length};
 
 // Room for any text.

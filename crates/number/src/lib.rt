@@ -1,11 +1,13 @@
 // Numbers of a record: groups of seven bits, lowest group first, the top bit set on all but the last byte. At most five
 // bytes, at most 2^32-1, and only in the shortest form.
+#![tactic(auto)]
+
 ghost use Rattle.std.specs.Prelude.{◌≡◌, ◌+◌, ◌≤◌, length};
 ghost use Rattle.std.proofs.lemmas.List.Edits.{sets};
 ghost use Rattle.number.specs.Number.{number_at, groups_at, number_refusal, written, count_placed, placed};
 
 // What stands at a place: a number with the place after it; the beginning of one, which the end cuts off; or one wrongly written.
-#[derive(Drop)]
+#[derive(Clone, Copy)]
 pub enum Number {
     Value(usize, usize),
     Cut,

@@ -11,16 +11,16 @@ use stripe::Shape;
 
 // A number of columns.
 #[repr(C)]
-#[derive(Drop)]
+#[derive(Clone, Copy)]
 pub struct Columns(u64);
 
 // A number of bytes.
 #[repr(C)]
-#[derive(Drop)]
+#[derive(Clone, Copy)]
 pub struct Bytes(u64);
 
 // Columns read, columns written, and their sum.
-#[derive(Drop)]
+#[derive(Clone, Copy)]
 pub struct ColumnBill {
     pub read: Columns,
     pub written: Columns,
@@ -28,7 +28,7 @@ pub struct ColumnBill {
 }
 
 // Bytes read, bytes written, and their sum.
-#[derive(Drop)]
+#[derive(Clone, Copy)]
 pub struct ByteBill {
     pub read: Bytes,
     pub written: Bytes,
@@ -36,7 +36,7 @@ pub struct ByteBill {
 }
 
 // What a fold costs, columns and bytes apart.
-#[derive(Drop)]
+#[derive(Clone, Copy)]
 pub struct Bill {
     pub columns: ColumnBill,
     pub bytes: ByteBill,
@@ -127,7 +127,7 @@ fn bytes_each(s: Shape, f: usize) -> Bytes
 }
 
 // How many bytes the plan reads, which is the length of the fold's input; none where the fold is refused.
-pub fn bytes_read_lem(s: Shape, stripes: usize, f: usize) -> Bytes
+pub fn bytes_read(s: Shape, stripes: usize, f: usize) -> Bytes
     ensures { result.0 ≡ bytes_read s stripes f }
 {
     if fold_refusal(s, stripes, f) != 0 {
@@ -162,7 +162,7 @@ pub fn bill_of(s: Shape, stripes: usize, f: usize) -> Bill
 {
     let columns = columns_read(s, stripes, f);
     let new_columns = columns_written(s, stripes, f);
-    let bytes = bytes_read_lem(s, stripes, f);
+    let bytes = bytes_read(s, stripes, f);
     let new_bytes = bytes_written(s, stripes, f);
     Bill {
         columns: ColumnBill {

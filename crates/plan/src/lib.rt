@@ -1,5 +1,7 @@
 // The plan of a fold: N stripes of one shape become one wide stripe with f parity columns. The plan says which bytes a fold reads;
 // module `counts` says how many, and how many it writes. Every function is total: what is refused reads and writes nothing.
+#![tactic(auto)]
+
 ghost use Rattle.std.specs.Prelude.{◌≡◌, ◌*◌, ◌<◌, ◌≤◌};
 ghost use Rattle.stripe.specs.Shape.{shape_refusal, most_data, most_parity, most_columns};
 ghost use Rattle.plan.specs.Plan.{fold_refusal, stripes_allowed, new_allowed, kind_of};
@@ -11,7 +13,7 @@ use stripe::{MOST_DATA, MOST_POINTS, MOST_ROWS, Shape};
 pub mod counts;
 
 // The kinds of folds. A reads parity columns, B runs of the data and the parity, C the data.
-#[derive(Drop)]
+#[derive(Clone, Copy)]
 pub enum Kind {
     A,
     B,
@@ -20,7 +22,7 @@ pub enum Kind {
 
 // The bytes that a plan reads of one column: its stripe and position, the offset of the first byte in the column, and how many.
 #[repr(C)]
-#[derive(Drop)]
+#[derive(Clone, Copy)]
 pub struct Span {
     pub stripe: u32,
     pub position: u32,

@@ -1,4 +1,6 @@
 // Loops over byte slices that multiply by any byte, eight masks to a product.
+#![tactic(auto)]
+
 pub mod within;
 
 ghost use Rattle.std.specs.Prelude.{◌≡◌, map, ℕ};
@@ -62,7 +64,7 @@ pub fn multiply(a: &mut [u8], d: &[u8])
 }
 
 // A byte times each power of two, by which a product is eight masks.
-#[derive(Drop)]
+#[derive(Clone, Copy)]
 struct Multiples {
     t0: u8,
     t1: u8,

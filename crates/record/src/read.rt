@@ -11,7 +11,7 @@ use number::{Number, number_refusal, read_number};
 use stripe::Shape;
 
 // What reading reports: 0, the shape and the number of lost columns; or a refusal, and zeros.
-#[derive(Drop)]
+#[derive(Clone, Copy)]
 pub struct Got {
     pub number: u32,
     pub shape: Shape,
@@ -19,21 +19,21 @@ pub struct Got {
 }
 
 // The shape at the front of a record and the place after it, or a refusal.
-#[derive(Drop)]
+#[derive(Clone, Copy)]
 enum Head {
     Shaped(Shape, usize),
     Unshaped(u32),
 }
 
 // The place after the lost positions, or a refusal.
-#[derive(Drop)]
+#[derive(Clone, Copy)]
 enum Listed {
     Upto(usize),
     Unlisted(u32),
 }
 
 // A lawful record's shape, lost count, and where its positions and its columns start; or a refusal.
-#[derive(Drop)]
+#[derive(Clone, Copy)]
 enum Verdict {
     Lawful(Shape, usize, usize, usize),
     Refused(u32),

@@ -1,6 +1,8 @@
 // Mending of stripes given by check equations. Of the columns that survive the first k are the sources: each lost column is a sum over them
 // with weights of the points alone, and so is each further survivor, a spare, by which they are judged. The columns are computed window by
 // window. Nothing is written before everything is judged.
+#![tactic(auto)]
+
 mod choose;
 mod judge;
 mod windows;

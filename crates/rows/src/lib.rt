@@ -3,6 +3,8 @@
 // has its own functions, and a block has the literal length 64: so the compiler keeps it in registers. The last block of a column ends
 // where the column ends, over bytes that are there already; only a column shorter than a block is taken row by row, and 16 places at a
 // time, as the end of a run is. Three rows of many columns are formed in `wide`.
+#![tactic(auto)]
+
 mod wide;
 
 ghost use Rattle.std.specs.Prelude.{◌≡◌, true, List, ℕ, ◌+◌, ◌*◌, ◌≤◌, ◌<◌, length, get_or};
@@ -20,7 +22,7 @@ use stripe::{MOST_DATA, MOST_LENGTH, MOST_ROWS};
 const WIDE: usize = 48;
 
 // Rows 0, 1 and 2 of a block, or the first two of them.
-#[derive(Drop)]
+#[derive(Clone, Copy)]
 pub(crate) struct Rows {
     pub(crate) row0: [u8; 64],
     pub(crate) row1: [u8; 64],
@@ -294,7 +296,7 @@ fn columns_fit(d: usize, k: usize, l: usize) -> bool
 }
 
 // Whether, besides, n bytes are as long as r rows of them, 1 to 3.
-fn rows_fit_lem(d: usize, k: usize, l: usize, r: usize, n: usize) -> bool
+fn rows_fit(d: usize, k: usize, l: usize, r: usize, n: usize) -> bool
     ensures { result ≡ rows_fit d k l r n }
 {
     if !columns_fit(d, k, l) {
@@ -310,7 +312,7 @@ fn rows_fit_lem(d: usize, k: usize, l: usize, r: usize, n: usize) -> bool
 }
 
 // Whether, besides, the n places from `from` on are places of row j, of the first three.
-fn run_fits_lem(d: usize, k: usize, l: usize, j: usize, from: usize, n: usize) -> bool
+fn run_fits(d: usize, k: usize, l: usize, j: usize, from: usize, n: usize) -> bool
     ensures { result ≡ run_fits d k l j from n }
 {
     if !columns_fit(d, k, l) {

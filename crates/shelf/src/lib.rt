@@ -1,5 +1,7 @@
 // The calls of the shelf daemon, for C: numbers and byte slices come in, 0 or the number of a refusal goes back. `c/shelf.h`
 // documents them. Each is thin over a proved function of a crate below, and refuses bad numbers and lengths itself.
+#![tactic(auto)]
+
 pub mod check;
 pub mod records;
 
@@ -14,7 +16,7 @@ ghost use Rattle.shelf.specs.Shelf.{shape_of, spans_answer, Planned};
 use coding::encode::encode;
 use fold::fold;
 use mending::mend;
-use plan::counts::{Bytes, Columns, bill_of, bytes_read_lem, columns_read};
+use plan::counts::{Bytes, Columns, bill_of, bytes_read, columns_read};
 use plan::{Span, fold_refusal, span_at};
 use stripe::Shape;
 
@@ -108,7 +110,7 @@ pub extern "C" fn shelf_plan_bytes_read(
     ensures { result.0 ≡ bytes_read (shape_of k r t l) stripes f }
 {
     let s = shape_of(k, r, t, l);
-    bytes_read_lem(s, stripes as usize, f as usize)
+    bytes_read(s, stripes as usize, f as usize)
 }
 
 // How many columns the fold writes; 0 where it is refused.
@@ -176,7 +178,7 @@ pub extern "C" fn shelf_plan_bytes_sum(
 }
 
 // What is answered to a call for the spans of a plan: the refusal, and how many spans are written.
-#[derive(Drop)]
+#[derive(Clone, Copy)]
 struct SpansAnswer {
     no: u32,
     spans: usize,

@@ -1,4 +1,6 @@
 // The steps of rows 1 and 2: loops over byte slices that multiply by 2, 4 or 16 and add, made of shifts.
+#![tactic(auto)]
+
 ghost use Rattle.std.specs.Prelude.{◌≡◌, cond, ℕ, ◌-◌, ◌*◌, ◌<◌, eqb};
 ghost use Rattle.std.specs.Int.Bits.{bit_and};
 ghost use Rattle.field.specs.Field.{◌⊕◌, ◌⊗◌, polynomial};

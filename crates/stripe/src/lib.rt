@@ -1,4 +1,6 @@
 // Stripes: k data columns and r parity columns of l bytes each, plain or prepared to gain parity.
+#![tactic(auto)]
+
 pub mod column;
 
 ghost use Rattle.std.specs.Prelude.{◌≡◌, ◌≤◌};
@@ -20,7 +22,7 @@ pub const MOST_ROWS_LENGTH: usize = MOST_ROWS * MOST_LENGTH;
 
 // The numbers of a stripe: data columns, parity columns, the mark (0 for a plain stripe, else the parity count that the
 // stripe is prepared to gain), and the bytes of a column. Values are made by `Shape::new` alone.
-#[derive(Drop)]
+#[derive(Clone, Copy)]
 pub struct Shape {
     pub k: usize,
     pub r: usize,

@@ -82,7 +82,7 @@ fn add_row2(
 }
 
 // Rows 0 and 1 of a block.
-#[derive(Drop)]
+#[derive(Clone, Copy)]
 struct Rows {
     row0: [u8; 64],
     row1: [u8; 64],

@@ -1,5 +1,7 @@
 // Syndromes: what the rows of a stripe lack of its parity as it lies, whatever its columns hold. They may be had over the weights of
 // one data column, which costs no product where a column has room for a block.
+#![tactic(auto)]
+
 mod apart;
 mod downwards;
 

@@ -1,5 +1,7 @@
 // The text of the mending program. Each function writes its text over the front of what is lent, leaves what follows, and answers the
 // length of the text; where the text cannot be written it answers 0 and writes nothing.
+#![tactic(auto)]
+
 use crate::line::{put_first, put_lines, put_number};
 use crate::put::put_word;
 use stripe::Shape;

@@ -1,4 +1,6 @@
 // The weights of stripes in a fold: a slice times a power of g, and another added. Weights up to g^8 are made of shifts.
+#![tactic(auto)]
+
 ghost use Rattle.std.specs.Prelude.{◌≡◌, map, ℕ, ◌≤◌};
 ghost use Rattle.field.specs.Field.{◌⊕◌, ◌⊗◌, gpow};
 ghost use Rattle.lanes.specs.Lanes.{onto};

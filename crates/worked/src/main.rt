@@ -1,12 +1,14 @@
 // Runs the worked examples of document 01 through the library and prints what it answers; `stdout` has what the document says.
 // The starred ones are also a theorem over the definitions (crate `demands`). The stripes with t=3 stand for what the document's
 // own examples can't show, a piggyback that is always taken from run 0; their bytes come from the second program. The bills are our own.
+#![tactic(auto)]
+
 use checking::{Wrong, first_wrong};
 use coding::encode::encode;
 use field::Gf;
 use fold::fold;
 use number::{Number, number_refusal, read_number, write_number};
-use plan::counts::{bill_of, bytes_read_lem, columns_read};
+use plan::counts::{bill_of, bytes_read, columns_read};
 use plan::fold_refusal;
 use record::read::read_record;
 use stripe::Shape;
@@ -116,7 +118,7 @@ fn plan(s: Shape, stripes: usize, f: usize, bytes: usize) {
     named(b" N=", stripes);
     named(b" f=", f);
     named(b": ", fold_refusal(s, stripes, f) as usize);
-    claimed(b", ", bytes_read_lem(s, stripes, f).is(bytes), bytes);
+    claimed(b", ", bytes_read(s, stripes, f).is(bytes), bytes);
     named(b" bytes, ", columns_read(s, stripes, f).number());
     text(b" columns\n");
 }

@@ -1,4 +1,6 @@
 // Writing a record: judged first; then the head, then the surviving columns one by one.
+#![tactic(auto)]
+
 use crate::columns::put_columns;
 use number::{number_length, write_number};
 use record::read::stripe_refusal;
@@ -15,7 +17,7 @@ ghost use Rattle.record.specs.Reading.{stripe_refusal};
 ghost use Rattle.writing.specs.Writing.{write_refusal, written_of, out_written};
 
 // What writing reports: 0 and the record's length; or a refusal, and 0.
-#[derive(Drop)]
+#[derive(Clone, Copy)]
 pub struct Written {
     pub number: u32,
     pub length: usize,

@@ -76,7 +76,7 @@ extern "C" {
 #endif
 
 /* The version of this header and of the library that it came with. */
-#define SHELF_VERSION "0.5.0"
+#define SHELF_VERSION "0.4.0"
 
 /* The limits, for the sizes of a caller's buffers. */
 enum {
@@ -102,10 +102,8 @@ enum {
     SHELF_LOST = 6,          /* lost positions do not strictly ascend, or one is not below k + r */
     SHELF_TOO_MANY_LOST = 7, /* more than r positions are lost */
     SHELF_DISAGREES = 8,     /* no codeword agrees with all columns that survive */
-    SHELF_CUT = 9,           /* a record ends inside a number or a column, or before one that is due */
-    SHELF_LEFT_OVER = 10,    /* a record: bytes are left over */
-    SHELF_MALFORMED = 11     /* a record: a number is wrongly written: its fifth byte has the top bit set, its value is above 2^32-1, or it
-                                is not in shortest form */
+    SHELF_CUT = 9,           /* a record: a number is malformed, above 2^32-1, or cut; or the columns are cut */
+    SHELF_LEFT_OVER = 10     /* a record: bytes are left over */
 };
 
 /* A short text for what a function returned, for a log. */
@@ -121,9 +119,8 @@ static inline const char *shelf_refusal(uint32_t number)
     case SHELF_LOST: return "lost positions do not ascend, or one is no position";
     case SHELF_TOO_MANY_LOST: return "more columns are lost than there is parity";
     case SHELF_DISAGREES: return "no codeword agrees with all columns that survive";
-    case SHELF_CUT: return "a record ends inside a number or a column";
+    case SHELF_CUT: return "a record's number or column is cut, or a number is malformed";
     case SHELF_LEFT_OVER: return "bytes are left over after a record";
-    case SHELF_MALFORMED: return "a record's number is wrongly written";
     default: return "no such number";
     }
 }
@@ -334,13 +331,9 @@ uint32_t shelf_fold(uint64_t k, uint64_t r, uint64_t t, uint64_t l, uint64_t str
  *
  * Returns 0: the surviving columns stand at their places of the stripe, column c from c * l on, and the lost positions at the front
  * of the list; the lost columns, and the rest of both, stay as they are. The record is read front to back: returns 5 for its own
- * length, the buffer and the two lists; then 9 or 11 for each number as it comes, 9 where the record ends inside or before it, 11 where
- * it is wrongly written; after the fourth 1, 2, or 5 for more than 65,536 bytes of stripe; then 9, 11 or 6 for the lost count and each
- * position; then 9 where the columns are cut, 10 where bytes are left over. With any of these nothing is written.
- *
- * What is left of a record that would be accepted, with any number of bytes missing at its end, is refused 9. What is refused 11 stays so
- * whatever follows, up to 65,536 bytes: its writer is at fault, or bytes were changed. 9 alone does not show that bytes are missing: a
- * length or a count that is too large gives it too.
+ * length, the buffer and the two lists; then 9 for each number as it comes; after the fourth 1, 2, or 5 for more than 65,536 bytes of
+ * stripe; then 9 or 6 for the lost count and each position; then 9 where the columns are cut, 10 where bytes are left over. With any
+ * of these nothing is written.
  *
  * Stack: less than 1,024 bytes.
  */

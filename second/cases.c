@@ -688,7 +688,7 @@ int main(int argc, char **argv)
         small_shapes();
     for (uint64_t i = 0; i < calls; i++)
         one_case();
-    differences += compare_records(calls / 400);
+    differences += compare_records(calls / 20);
     differences += compare_sittings(calls / 400);
     uint64_t missing = table(calls);
     if (MAX_PARITY > 3)

@@ -15,7 +15,6 @@ struct span { uint32_t stripe, position, first, length; };
 #error "MAX_PARITY, the most that r may be: second/run takes it from shelf.h"
 #endif
 
-enum { LINES = 12 };                                           /* the refusals, and 0 */
 enum { MAX_SPANS = 425, MAX_RECORD = 65536, MAX_LOST = 258, MAX_TEXT = 1 << 18 };
 
 /* The field: a times b, and g^e. */

@@ -19,7 +19,7 @@ const struct op_entry ops[OPS] = {
     [PLAN_BYTES_SUM] = {"plan_bytes_sum", 3, BITS_PLAN},
     [PLAN_SPANS] = {"plan_spans", 12, BITS_PLAN | 1 << 5},
     [CHECK] = {"check", 10, BITS_SHAPE | 1 << 5 | 1 << 8},
-    [READ_RECORD] = {"read_record", 18, BITS_SHAPE | 1 << 5 | 1 << 6 | 1 << 9 | 1 << 10 | 1 << 11},
+    [READ_RECORD] = {"read_record", 15, BITS_SHAPE | 1 << 5 | 1 << 6 | 1 << 9 | 1 << 10},
     [WRITE_RECORD] = {"write_record", 6, BITS_SHAPE | 1 << 5 | 1 << 6},
 };
 
@@ -186,7 +186,7 @@ static void table_of_all(void)
     }
     printf("\n");
     printf("records through the program:");
-    for (int n = 0; n < LINES; n++)
+    for (int n = 0; n < 11; n++)
         if (n != 3 && n != 4)
             show(n == 0 ? "mended:" : (sprintf(what, "%d:", n), what), record_answers[n], n > 8 ? 1000 : 50);
     if (MAX_PARITY > 3)

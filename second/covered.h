@@ -5,6 +5,8 @@
 #include "call.h"
 #include "code.h"
 
+enum { LINES = 11 };
+
 #define BITS_SHAPE (1 << 1 | 1 << 2)
 #define BITS_PLAN (BITS_SHAPE | 1 << 3 | 1 << 4)
 

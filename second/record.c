@@ -6,47 +6,42 @@
 
 struct input { const uint8_t *rec; size_t len, at; };
 
-/* The next number: 0; 9 where the input ends inside it; 11 where it is too long, above 2^32-1 or not in shortest form. */
-static uint32_t number(struct input *in, uint64_t *v)
+/* The next number; 0 where it is malformed, above 2^32-1, or cut. */
+static int number(struct input *in, uint64_t *v)
 {
     *v = 0;
-    for (int group = 0; group < 5; group++) {
-        if (in->at == in->len)
-            return 9;
+    for (int group = 0; group < 5 && in->at < in->len; group++) {
         uint8_t b = in->rec[in->at++];
         *v += (uint64_t)(b & 127) << 7 * group;
         if (b < 128)
-            return (b == 0 && group > 0) || *v > 0xFFFFFFFF ? 11 : 0;
+            return (b != 0 || group == 0) && *v <= 0xFFFFFFFF;
     }
-    return 11;
+    return 0;
 }
 
 /* Front to back: each number as it comes, the shape after the fourth, the lost positions, the columns, the end. */
 uint32_t read_record(const uint8_t *rec, size_t len, struct shape *s, uint16_t *lost, size_t *count, uint8_t *stripe)
 {
     struct input in = {rec, len, 0};
-    uint64_t *const numbers[] = {&s->k, &s->r, &s->t, &s->l};
     uint64_t v, n;
     uint16_t list[MAX_LOST];
-    uint32_t refused;
     if (len > MAX_RECORD)
         return 5;
-    for (int i = 0; i < 4; i++)
-        if ((refused = number(&in, numbers[i])) != 0)
-            return refused;
+    if (!number(&in, &s->k) || !number(&in, &s->r) || !number(&in, &s->t) || !number(&in, &s->l))
+        return 9;
     if (shape_lines(*s) != 0)
         return first_line(shape_lines(*s));
     n = s->k + s->r;
     if (n * s->l > 65536)
         return 5;
-    if ((refused = number(&in, &v)) != 0)
-        return refused;
+    if (!number(&in, &v))
+        return 9;
     if (v > n)
         return 6;
     *count = v;
     for (size_t i = 0; i < *count; i++) {
-        if ((refused = number(&in, &v)) != 0)
-            return refused;
+        if (!number(&in, &v))
+            return 9;
         if (v >= n || (i > 0 && v <= list[i - 1]))
             return 6;
         list[i] = (uint16_t)v;

@@ -9,7 +9,6 @@ pub mod Runs
 pub mod Sums
 pub mod Demands
 pub mod Bill
-pub mod Upload
 pub mod Sittings
 pub mod Stale
 pub mod Worked

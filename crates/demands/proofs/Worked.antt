@@ -30,7 +30,7 @@ use Rattle.fold.specs.Fold.{fold_by_rows, fold_by_points, read_parity, read_row,
 use Rattle.points.specs.Folding.{joined, parts}
 use Rattle.number.specs.Number.{groups, groups_at}
 use Rattle.record.specs.Reading.{first_of, head_refusal, content_refusal, positions_refusal, after_positions, stripe_refusal, read_refusal}
-use Rattle.demands.specs.Worked.{shape, stale, accepted, Holds, AllHold, worked, points_pair, narrow_pair, ours, bills, edges}
+use Rattle.demands.specs.Worked.{shape, stale, accepted, Holds, AllHold, worked, points_pair, narrow_pair, ours, bills}
 use Rattle.demands.proofs.Points.{one, two, narrow_one, narrow_two, folded, parity_columns, folded_columns}
 
 unfoldable pub small : List ℕ → Bool
@@ -201,7 +201,3 @@ bills_hold = (
     ),
   ),
 )
-
-pub edges_hold : AllHold edges
-unfolding edges AllHold Holds groups groups_at first_of head_refusal content_refusal positions_refusal after_positions stripe_refusal shape_refusal read_refusal
-edges_hold = (refl, (refl, (refl, (refl, (refl, (refl, (refl, (refl, (refl, (refl, tt))))))))))

@@ -168,9 +168,8 @@ write_table s xs es room =
     ∷ unless (leb (length (record_of s es xs)) room) 5
     ∷ []
 
--- reading a record bs, front to back, with a lent buffer and a list of these lengths: 5; each number as it comes (9, or 11 by document 02,
--- request 5); after the fourth 1, 2 and 5; then the lost count and the positions (9, 11, and 6 as soon as seen); then 9 or 10 for the
--- columns
+-- reading a record bs, front to back, with a lent buffer and a list of these lengths: 5; each number as it comes (9); after the fourth 1, 2
+-- and 5; then the lost count and the positions (9, and 6 as soon as seen); then 9 or 10 for the columns
 abbrev pub read_table : List ℕ → ℕ → ℕ → List ℕ
 read_table bs a b =
     unless (leb (length bs) 65536) 5

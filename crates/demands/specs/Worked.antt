@@ -1,6 +1,5 @@
--- The starred examples of document 01, 'Worked stripes': one list, and what it means that an example holds. (80 00 was refused 9 there, and
--- is refused 11 since document 02, request 5.) Three further lists are our own: with r above 3, the bills of folds, and numbers at their
--- edges.
+-- The starred examples of document 01, 'Worked stripes': one list, and what it means that an example holds. Two further lists are
+-- our own: with r above 3, and the bills of folds.
 use Rattle.std.specs.Prelude.{◌≡◌, List, [], ◌∷◌, ℕ, length}
 use Rattle.field.specs.Field.{◌⊗◌, gpow}
 use Rattle.stripe.specs.declared.Shape.{Shape}
@@ -80,7 +79,7 @@ worked =
     ∷ Mend (shape 4 2 0 1) (0 ∷ 0 ∷ []) stale 8 stale
     ∷ Mend (shape 4 2 0 1) (0 ∷ 0 ∷ 3 ∷ 0 ∷ []) stale 0 accepted
     ∷ Written 300 (0xAC ∷ 0x02 ∷ [])
-    ∷ Read (0x80 ∷ 0x00 ∷ []) 11
+    ∷ Read (0x80 ∷ 0x00 ∷ []) 9
     ∷ Read [] 9
     ∷ []
 
@@ -113,21 +112,4 @@ bills =
     ∷ Bill (shape 2 1 2 2) 2 2 6 2 8 8 4 12
     ∷ Bill (shape 4 2 0 512) 3 3 12 3 15 6144 1536 7680
     ∷ Bill (shape 4 2 0 512) 1 2 0 0 0 0 0 0
-    ∷ []
-
--- ---- our own: numbers at their edges (document 02, request 5). Cut; too long, as the last bytes and before others; too large, and the
--- largest; not in shortest form, as the first number and as a lost position. Then a column that is cut
-
-unfoldable pub edges : List Case
-edges =
-    Read (0x80 ∷ 0x80 ∷ 0x80 ∷ 0x80 ∷ []) 9
-    ∷ Read (0x80 ∷ 0x80 ∷ 0x80 ∷ 0x80 ∷ 0x80 ∷ []) 11
-    ∷ Read (0x80 ∷ 0x80 ∷ 0x80 ∷ 0x80 ∷ 0x80 ∷ 0x01 ∷ []) 11
-    ∷ Read (0xFF ∷ 0xFF ∷ 0xFF ∷ 0xFF ∷ 0x10 ∷ []) 11
-    ∷ Written 4294967295 (0xFF ∷ 0xFF ∷ 0xFF ∷ 0xFF ∷ 0x0F ∷ [])
-    ∷ Read (0xFF ∷ 0xFF ∷ 0xFF ∷ 0xFF ∷ 0x0F ∷ []) 9
-    ∷ Read (0x80 ∷ 0x80 ∷ 0x00 ∷ []) 11
-    ∷ Read (0x81 ∷ 0x80 ∷ 0x80 ∷ 0x80 ∷ 0x00 ∷ []) 11
-    ∷ Read (0x04 ∷ 0x02 ∷ 0x00 ∷ 0x01 ∷ 0x01 ∷ 0x83 ∷ 0x00 ∷ []) 11
-    ∷ Read (0x04 ∷ 0x02 ∷ 0x00 ∷ 0x01 ∷ 0x01 ∷ 0x03 ∷ 0x05 ∷ 0x06 ∷ 0x03 ∷ 0x04 ∷ []) 9
     ∷ []

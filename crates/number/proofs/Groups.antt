@@ -40,11 +40,6 @@ at_more (suc m) s at h e b =
     let p : suc m - 1 ≡ m = omega arith in
     rw (p, lt-ltb at (length s) e, le-ltb (get_or s at 0) 128 b)
 
-pub at_next : (m : ℕ) (s : List ℕ) (at : ℕ) → at < length s → 128 ≤ get_or s at 0 → groups_at (suc m) s at ≡ onto (get_or s at 0 - 128) (groups_at m s (at + 1))
-at_next m s at e b =
-    let p : suc m - 1 ≡ m = omega arith in
-    sym (at_more (suc m) s at (λ z. omega arith) e b) ∙ ap (λ (i : ℕ). onto (get_or s at 0 - 128) (groups_at i s (at + 1))) p
-
 -- one more group, of a number and of none
 pub onto-zero : (d v next : ℕ) (g : Number) → Value v next ≡ g → v ≡ 0 → Malformed ≡ onto d g
 onto-zero d v next g e z = rw (← e, eq-eqb v 0 z)
@@ -90,9 +85,14 @@ pub data View (m : ℕ) (s : List ℕ) (at : ℕ) : Type 0 where
 
 pub view : (m : ℕ) (s : List ℕ) (at : ℕ) → View m s at
 view m s at =
-    ⊎_elim (λ l. ⊎_elim (λ b. last l b (sym (at_last (suc m) s at (λ e. omega arith) l b))) (λ b. more l b (at_next m s at l b))
+    ⊎_elim (λ l. ⊎_elim (λ b. last l b (sym (at_last (suc m) s at (λ e. omega arith) l b))) (λ b. more l b (sym (at_more_suc l b)))
     (below_or_from (get_or s at 0) 128))
     (λ h. ended h (sym (at_end (suc m) s at (λ e. omega arith) h))) (below_or_from at (length s))
+  where
+    at_more_suc : at < length s → 128 ≤ get_or s at 0 → onto (get_or s at 0 - 128) (groups_at m s (at + 1)) ≡ groups_at (suc m) s at
+    at_more_suc l b =
+        let p : suc m - 1 ≡ m = omega arith in
+        ap (λ (i : ℕ). onto (get_or s at 0 - 128) (groups_at i s (at + 1))) (sym p) ∙ at_more (suc m) s at (λ e. omega arith) l b
 
 -- m groups hold 7 * m bits
 pub groups_small : (m : ℕ) (s : List ℕ) (at v next : ℕ) → Bytes s → groups_at m s at ≡ Value v next → v < 128 ^ m

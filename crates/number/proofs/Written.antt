@@ -16,8 +16,7 @@ use Rattle.field.proofs.Cases.{below_or_from}
 use Rattle.number.specs.declared.Number.{Number}
 use Rattle.number.specs.declared.Number.TheVariants.{Value, Cut, Malformed}
 use Rattle.number.specs.Number.{groups, written, onto, groups_at, limited, number_at, number_refusal, value_of, next_of}
-use Rattle.number.specs.Told.{EndsInside}
-use Rattle.number.proofs.Groups.{View, view, ended, last, more, onto_value, onto_cut, onto_more, at_last, at_next, at_end, limited_within}
+use Rattle.number.proofs.Groups.{View, view, ended, last, more, onto_value, onto_cut, onto_more, at_last, at_more, at_end, limited_within}
 
 -- ---- the groups of a number
 
@@ -104,9 +103,11 @@ read_next : (m : ℕ) (s q : List ℕ) (at v : ℕ) → 128 ≤ v → drop at s 
 read_next m s q at v h e ih =
     let g = groups_next m v h in
     let d = drop_head s at (128 + v % 128) (groups m (v / 128) ++ q) (e ∙ ap (λ (xs : List ℕ). xs ++ q) g) in
+    let p : suc m - 1 ≡ m = omega arith in
     let w : get_or s at 0 - 128 + 128 * (v / 128) ≡ v = omega (arith, d.1) in
     let n : at + 1 + length (groups m (v / 128)) ≡ at + suc (length (groups m (v / 128))) = omega arith in
-    at_next m s at d.0 (omega (arith, d.1))
+    sym (at_more (suc m) s at (λ z. omega arith) d.0 (omega (arith, d.1)))
+    ∙ ap (λ (i : ℕ). onto (get_or s at 0 - 128) (groups_at i s (at + 1))) p
     ∙ sym (onto_more (get_or s at 0 - 128) (v / 128) (at + 1 + length (groups m (v / 128))) (groups_at m s (at + 1)) (sym (ih d.2)) (λ z. omega arith))
     ∙ ap (λ (x : ℕ). Value x (at + 1 + length (groups m (v / 128)))) w
     ∙ ap (λ (x : ℕ). Value v x) n
@@ -174,12 +175,6 @@ limited_cut (Value u n) e = go (leb u 4294967295) e
 limited_cut Cut e = refl
 limited_cut Malformed e = e
 
--- what is not refused is a number
-pub number_is : (g : Number) → number_refusal g ≡ 0 → g ≡ Value (value_of g) (next_of g)
-number_is (Value v next) e = refl
-number_is Cut e = absurd (omega arith)
-number_is Malformed e = absurd (omega arith)
-
 -- what reads as a number is exactly its written bytes, and the place after it is past them
 pub only_written : (s : List ℕ) (at v next : ℕ) → Bytes s → number_at s at ≡ Value v next
     → (v ≤ 4294967295) × (next ≡ at + length (written v)) × (drop at s ≡ written v ++ drop next s)
@@ -187,6 +182,30 @@ only_written s at v next h e =
     let l = limited_value (groups_at 5 s at) v next e in
     let g = groups_only 5 s at v next h l.0 in
     (l.1, g.0, g.1)
+
+-- ---- the answer by document 01's number and values
+
+-- the bytes of the number v stand at the place, and `next` is past them
+pub record Stands (s : List ℕ) (at v next : ℕ) : Type 0 where
+  pub most : v ≤ 4294967295
+  pub past : next ≡ at + length (written v)
+  pub bytes : drop at s ≡ written v ++ drop next s
+
+-- 0, the number that stands there and the place after it; or 9 where the bytes of no number stand
+pub number_read : (s : List ℕ) (at : ℕ) → Bytes s
+    → ((number_refusal (number_at s at) ≡ 0) × Stands s at (value_of (number_at s at)) (next_of (number_at s at)))
+    ⊎ ((number_refusal (number_at s at) ≡ 9) × ((v next : ℕ) → Stands s at v next → ⊥))
+number_read s at h = go (number_at s at) refl
+  where
+    other : (g : Number) → number_at s at ≡ g → number_refusal g ≡ 9 → (v next : ℕ) → Stands s at v next → ⊥
+    other g e n v next w =
+        let z : number_refusal g ≡ 0 = ap number_refusal (sym e ∙ read_written s (drop next s) at v w.most w.bytes) in omega arith
+
+    go : (g : Number) → number_at s at ≡ g
+        → ((number_refusal g ≡ 0) × Stands s at (value_of g) (next_of g)) ⊎ ((number_refusal g ≡ 9) × ((v next : ℕ) → Stands s at v next → ⊥))
+    go (Value v next) e = let w = only_written s at v next h e in inl (refl, record { most = w.0; past = w.1; bytes = w.2 })
+    go Cut e = inr (refl, other Cut e refl)
+    go Malformed e = inr (refl, other Malformed e refl)
 
 -- ---- what is cut
 
@@ -228,7 +247,8 @@ groups_cut (suc m) s at h e = go (view (suc m) s at) (groups_cut m s (at + 1) h)
     go (more l b f) ih = completed_more m s at h l b (ih (onto_cut (get_or s at 0 - 128) (groups_at (suc m) s (at + 1)) (sym f ∙ e)))
 
 -- what is cut is a proper beginning of some number's bytes
-pub cut_begins : (s : List ℕ) (at : ℕ) → Bytes s → number_at s at ≡ Cut → EndsInside s at
+pub cut_begins : (s : List ℕ) (at : ℕ) → Bytes s → number_at s at ≡ Cut
+    → (v : ℕ) × (b : ℕ) × (rest : List ℕ) × (v ≤ 4294967295) × (written v ≡ drop at s ++ (b ∷ rest))
 unfolding Completed
 cut_begins s at h e =
     let c = groups_cut 4 s at h (limited_cut (groups_at 5 s at) e) in
@@ -246,7 +266,10 @@ begin_next m s at v b rest x xs g e d ih =
     let h = drop_head s at x xs d in
     let y : 128 + v % 128 ≡ x = cc in
     let ys : groups m (v / 128) ≡ xs ++ (b ∷ rest) = cc in
-    at_next m s at h.0 (omega (arith, h.1)) ∙ ap (onto (get_or s at 0 - 128)) (ih ys h.2)
+    let p : suc m - 1 ≡ m = omega arith in
+    sym (at_more (suc m) s at (λ z. omega arith) h.0 (omega (arith, h.1)))
+    ∙ ap (λ (i : ℕ). onto (get_or s at 0 - 128) (groups_at i s (at + 1))) p
+    ∙ ap (onto (get_or s at 0 - 128)) (ih ys h.2)
 
 groups_begin : (m : ℕ) (s : List ℕ) (at v b : ℕ) (rest xs : List ℕ) → groups m v ≡ xs ++ (b ∷ rest) → drop at s ≡ xs → groups_at m s at ≡ Cut
 unfolding groups

@@ -36,11 +36,11 @@ limited Malformed = Malformed
 abbrev pub number_at : List ℕ → ℕ → Number
 number_at s at = limited (groups_at 5 s at)
 
--- the refusal of what is no number: 9 where the input ends inside it, 11 where it is wrongly written (document 02, request 5)
+-- the refusal of what is no number: malformed, above 2^32-1 or cut
 abbrev pub number_refusal : Number → ℕ
 number_refusal (Value v next) = 0
 number_refusal Cut = 9
-number_refusal Malformed = 11
+number_refusal Malformed = 9
 
 -- the value of a number, and the place after it; 0 for what is none
 abbrev pub value_of : Number → ℕ

@@ -6,7 +6,7 @@ ghost use Rattle.std.specs.Prelude.{◌≡◌, ◌+◌, ◌≤◌, length};
 ghost use Rattle.std.proofs.lemmas.List.Edits.{sets};
 ghost use Rattle.number.specs.Number.{number_at, groups_at, number_refusal, written, count_placed, placed};
 
-// What stands at a place: a number with the place after it; the beginning of one, which the end cuts off; or one wrongly written.
+// What stands at a place: a number with the place after it; the beginning of one, which the end cuts off; or neither.
 #[derive(Clone, Copy)]
 pub enum Number {
     Value(usize, usize),
@@ -23,7 +23,7 @@ pub fn read_number(s: &[u8], at: usize) -> Number
         return got;
     };
     if 4294967295 < value {
-        return Number::Malformed; // too large
+        return Number::Malformed;
     }
     Number::Value(value, next)
 }
@@ -34,7 +34,7 @@ fn groups_at(s: &[u8], at: usize, m: usize) -> Number
     ensures { result ≡ groups_at m s.now at }
 {
     if m == 0 {
-        return Number::Malformed; // too long
+        return Number::Malformed;
     }
     if s.len() <= at {
         return Number::Cut;
@@ -48,19 +48,19 @@ fn groups_at(s: &[u8], at: usize, m: usize) -> Number
         return rest;
     };
     if value == 0 {
-        return Number::Malformed; // not the shortest form
+        return Number::Malformed;
     }
     Number::Value(b - 128 + 128 * value, next)
 }
 
-// The refusal of what is no number: 9 where it is cut, 11 where it is malformed. 0 for a number.
+// The refusal of what is no number: 9 whether it is cut or malformed. 0 for a number.
 pub fn number_refusal(n: Number) -> u32
     ensures { result ≡ number_refusal n }
 {
     match n {
         Number::Value(_, _) => 0,
         Number::Cut => 9,
-        Number::Malformed => 11,
+        Number::Malformed => 9,
     }
 }
 

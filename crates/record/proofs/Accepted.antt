@@ -16,17 +16,22 @@ use Rattle.stripe.specs.Stripe.{among, Ascending}
 use Rattle.stripe.proofs.Allowed.{Allowed}
 use Rattle.stripe.proofs.Lost.{not_among, among_other, among_first}
 use Rattle.number.specs.declared.Number.{Number}
-use Rattle.number.specs.declared.Number.TheVariants.{Value}
+use Rattle.number.specs.declared.Number.TheVariants.{Value, Cut, Malformed}
 use Rattle.record.specs.declared.read.Verdict.TheVariants.{Lawful, Refused}
 use Rattle.number.specs.Number.{number_at, number_refusal, groups_at, value_of, next_of}
 use Rattle.record.specs.Layout.{kept}
 use Rattle.record.specs.Reading.{unless, fourth_number, count_number, shape_read, count_of, lost_listed, columns_start, head_refusal, position_refusal}
 use Rattle.record.specs.Reading.{positions_refusal, positions_at, after_positions, columns_refusal, rest_refusal, content_refusal, verdict_of}
 use Rattle.number.proofs.Groups.{View, view, ended, last, more, onto_value}
-use Rattle.number.proofs.Written.{limited_value, number_is}
+use Rattle.number.proofs.Written.{limited_value}
 use Rattle.record.proofs.Refusals.{first_zero, head_described, described}
 
 -- ---- a number that was read
+
+pub number_is : (g : Number) → number_refusal g ≡ 0 → g ≡ Value (value_of g) (next_of g)
+number_is (Value v next) e = refl
+number_is Cut e = absurd (omega arith)
+number_is Malformed e = absurd (omega arith)
 
 groups_within : (m : ℕ) (s : List ℕ) (at v next : ℕ) → groups_at m s at ≡ Value v next → next ≤ length s
 unfolding groups_at

@@ -14,10 +14,10 @@ use Rattle.number.specs.Number.{number_at, number_refusal, written, value_of, ne
 use Rattle.record.specs.Layout.{positions_written, survivors, kept, restored, record_head, record_of}
 use Rattle.record.specs.Reading.{first_number, second_number, third_number, fourth_number, count_number, shape_read, count_of, lost_listed, columns_start}
 use Rattle.record.specs.Reading.{head_refusal, positions_refusal, positions_at, after_positions, content_refusal, columns_filled}
-use Rattle.number.proofs.Written.{only_written, number_is}
+use Rattle.number.proofs.Written.{only_written}
 use Rattle.record.proofs.Survivors.{restored_lost, restored_kept, survivors_lost, survivors_kept}
 use Rattle.record.proofs.Refusals.{first_zero}
-use Rattle.record.proofs.Accepted.{Accepted, accepted, position_zero, positions-zero, kept_lost, kept-one}
+use Rattle.record.proofs.Accepted.{Accepted, accepted, number_is, position_zero, positions-zero, kept_lost, kept-one}
 use Rattle.record.proofs.Listing.{positions-length}
 
 -- ---- the head

@@ -4,5 +4,4 @@ pub mod Listing
 pub mod Accepted
 pub mod Filling
 pub mod Exactly
-pub mod Beginning
 pub mod Unique

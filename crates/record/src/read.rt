@@ -107,7 +107,7 @@ fn read_head(s: &[u8]) -> Head
     Head::Shaped(shape, next_of(l))
 }
 
-// 9 or 11 where it is no number, else 6 where it is not at least `least` and below n, else 0.
+// 9 where it is no number, else 6 where it is not at least `least` and below n, else 0.
 fn position_refusal(g: Number, least: usize, n: usize) -> u32
     ensures { result ≡ position_refusal g least n }
 {

@@ -7,7 +7,7 @@ use checking::{Wrong, first_wrong};
 use coding::encode::encode;
 use field::Gf;
 use fold::fold;
-use number::{Number, number_refusal, read_number, write_number};
+use number::write_number;
 use plan::counts::{bill_of, bytes_read, columns_read};
 use plan::fold_refusal;
 use record::read::read_record;
@@ -161,17 +161,6 @@ fn written(value: u32) {
     text(b"\n");
 }
 
-fn edge(bytes: &[u8]) {
-    listed(b"number", bytes);
-    let n = read_number(bytes, 0);
-    match n {
-        Number::Value(value, _) => named(b" is ", value),
-        Number::Cut => named(b" is refused ", number_refusal(n) as usize),
-        Number::Malformed => named(b" is refused ", number_refusal(n) as usize),
-    }
-    text(b"\n");
-}
-
 fn recorded(s: Shape, stripe: &[u8], lost: &[u16]) {
     let mut out = [0xeeu8; 16];
     let w = write_record(s, stripe, lost, &mut out);
@@ -306,17 +295,6 @@ fn records() {
     taken(b"");
 }
 
-fn edges() {
-    edge(b"\x80\x80\x80\x80");
-    edge(b"\x80\x80\x80\x80\x80");
-    edge(b"\xff\xff\xff\xff\x10");
-    edge(b"\xff\xff\xff\xff\x0f");
-    edge(b"\x80\x00");
-    edge(b"\x80\x80\x00");
-    edge(b"\x81\x80\x80\x80\x00");
-    edge(b"");
-}
-
 fn main() {
     fields();
     allowed();
@@ -328,5 +306,4 @@ fn main() {
     folds();
     columns();
     records();
-    edges();
 }

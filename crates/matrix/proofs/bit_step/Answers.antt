@@ -1,0 +1,61 @@
+-- `bit_step` meets its contract: the sums of the first g groups are in.
+use Prim.Native.Nat.{ℕ, ◌+◌, ◌*◌, ◌<◌}
+use mathlib.Core.Path.{◌≡◌, subst}
+use native.Mathlib.Omega.{arith}
+use lib.ListN.{get_or}
+use Rattle.matrix.proofs.Turns.{bit_start, bit_turn, bit_done}
+use borrow.Author.Rules.{rules}
+use Rattle.matrix.proofs.bit_step.Goals as goal
+
+first_small : (s : goal.Start) → get_or s.args.es.now s.args.row 0 < 16
+first_small s =
+    let r : s.args.row + 0 * 8 ≡ s.args.row = omega arith in
+    subst (λ (x : ℕ). get_or s.args.es.now x 0 < 16) r (s.requires.1.1.1.1 0 (omega arith))
+
+pub overflow_mul-first : goal.overflow_mul-first
+overflow_mul-first c = omega (arith, first_small c.before.before.before.before, c.wide-first.ensures)
+
+pub overflow_add-last : goal.overflow_add-last
+overflow_add-last c = omega (arith, first_small c.before.before.before.before, c.wide-first.ensures)
+
+pub slice_bounds-double_add-end-2 : goal.slice_bounds-double_add-end-2
+slice_bounds-double_add-end-2 c = omega (arith, first_small c.before.before.before.before.before, c.wide-first.ensures)
+
+pub loop-g-init : goal.loop-g-init
+loop-g-init c = (search rules, search rules, bit_start _ _ _ _)
+
+-- the number of group g is that of a sum
+number_small : (c : goal.After-wide) → c.wide.result < 16
+number_small c =
+    omega (arith, c.requires.1.1.1.1 c.loop-g.g c.loop-g-test.true, c.wide.ensures)
+
+pub overflow_add-o : goal.overflow_add-o
+overflow_add-o c = omega (arith, number_small c)
+
+pub overflow_mul-o-in-loop-g : goal.overflow_mul-o-in-loop-g
+overflow_mul-o-in-loop-g c = omega (arith, number_small c)
+
+pub overflow_add-e : goal.overflow_add-e
+overflow_add-e c = omega (arith, number_small c)
+
+pub slice_bounds-add-end-in-loop-g : goal.slice_bounds-add-end-in-loop-g
+slice_bounds-add-end-in-loop-g c = omega (arith, number_small c.before)
+
+pub loop-g-preserved : goal.loop-g-preserved
+loop-g-preserved c =
+    let at = c.loop-g in
+    let e = c.wide.ensures in
+    let few = number_small c.before.before.before in
+    let o = (at.g * 16 + c.wide.result) * 64 in
+    let t = c.args.t.now in
+    let es = c.args.es.now in
+    (search rules, search rules, bit_turn t es c.args.row at.g o _ _ _ (omega arith) (omega arith) (omega arith) at.invariant.2 c.add.ensures)
+
+pub returns : goal.returns
+returns c =
+    let few = first_small c.before.before.before.before.before.before.before.before.before in
+    let e = c.wide-first.ensures in
+    let o = c.wide-first.result * 64 in
+    let first = c.double_add.ensures in
+    bit_done c.args.t.now c.args.es.now c.args.row c.args.n c.loop-g.g o _ _ _
+    (omega arith) (omega arith) (omega arith) (omega arith) first c.loop-g.invariant.2

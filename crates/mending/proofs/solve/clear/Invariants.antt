@@ -1,0 +1,10 @@
+-- `clear` meets its contract.
+use Prim.Native.Nat.{◌≤◌}
+use Rattle.mending.proofs.Slots.{Clearing}
+use Rattle.mending.proofs.solve.clear.Given as goal
+
+abbrev pub invariant-loop-u : goal.invariant-loop-u
+invariant-loop-u l = (1 ≤ l.u) × ((l.u ≤ l.e) × Clearing l.c l.e l.at l.d l.n l.initial.slots l.slots l.u)
+
+abbrev pub decreases-loop-u : goal.decreases-loop-u
+decreases-loop-u l = l.u

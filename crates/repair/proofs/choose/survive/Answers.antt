@@ -1,0 +1,47 @@
+-- `survive` meets its contract: the survivors below c are there, and the lost positions passed are those below c.
+use Prim.Native.Nat.{◌<◌}
+use mathlib.Core.Path.{refl, sym, ap, ◌∙◌}
+use mathlib.Core.Logic.{⊎_elim}
+use native.Mathlib.Omega.{arith}
+use lib.ListN.{length, length-set}
+use borrow.Author.Rules.{rules}
+use Rattle.repair.proofs.Chosen.{walk_start, walk_lost, walk_kept, walk_done, walk_as, lost_in_lem, kept_room}
+use Rattle.repair.proofs.choose.survive.Goals as goal
+
+-- a position that survives has room
+room : (c : goal.Else-is_next) → c.loop-c.m < length c.loop-c.out
+room c =
+    let at = c.loop-c in
+    kept_room _ _ at.c at.v at.m at.out at.invariant.2 c.loop-c-test.true (sym c.is_next.ensures ∙ c.if-is_next.false)
+
+pub loop-c-init : goal.loop-c-init
+loop-c-init c = (refl, search rules, walk_start _ _ _ refl c.requires.1)
+
+pub bounds-out-m : goal.bounds-out-m
+bounds-out-m c = room c
+
+pub overflow_add-m : goal.overflow_add-m
+overflow_add-m c = omega (arith, room c)
+
+pub loop-c-preserved : goal.loop-c-preserved
+loop-c-preserved c =
+    let at = c.loop-c in
+    let more = c.loop-c-test.true in
+    let is = sym c.is_next.ensures in
+    ⊎_elim
+    (λ w.
+    let next = is ∙ w.0.taken in (
+      ap length w.1 ∙ at.invariant.0,
+      omega (arith, w.2, lost_in_lem _ _ at.c at.v at.m at.out at.invariant.2 more next),
+      walk_as _ _ _ _ _ _ _ _ _ w.1 w.2 w.3 (walk_lost _ _ at.c at.v at.m at.out at.invariant.2 more next),
+    ))
+    (λ w.
+    let other = is ∙ w.0.left in (
+      ap length w.1 ∙ length-set at.out at.m at.c ∙ at.invariant.0,
+      omega (arith, w.2, at.invariant.1),
+      walk_as _ _ _ _ _ _ _ _ _ w.1 w.2 w.3 (walk_kept _ _ at.c at.v at.m at.out at.invariant.2 more other),
+    ))
+    c.if-is_next.branch
+
+pub returns : goal.returns
+returns c = walk_done _ _ _ _ _ _ c.loop-c.invariant.2 c.loop-c-test.false

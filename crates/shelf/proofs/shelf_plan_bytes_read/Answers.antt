@@ -1,0 +1,11 @@
+-- `shelf_plan_bytes_read` meets its contract: the shape is that of the four numbers.
+use mathlib.Core.Path.{ap, ◌∙◌}
+use Rattle.stripe.specs.declared.Shape.{Shape}
+use Rattle.plan.specs.Plan.{bytes_read}
+use Rattle.shelf.proofs.shelf_plan_bytes_read.Goals as goal
+
+pub returns : goal.returns
+returns c =
+    let a = c.args in
+    let same = c.shape_of-s.ensures in
+    c.bytes_read.ensures ∙ ap (λ (s : Shape). bytes_read s a.stripes a.f) same

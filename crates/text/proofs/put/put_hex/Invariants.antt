@@ -1,0 +1,14 @@
+-- After q turns the first q bytes are written.
+use Prim.Native.Nat.{◌+◌, ◌-◌, ◌*◌, ◌≤◌}
+use mathlib.Core.Path.{◌≡◌}
+use lib.ListN.{length, take}
+use Rattle.field.specs.Bytes.{over}
+use Rattle.text.specs.Text.{hex}
+use Rattle.text.proofs.put.put_hex.Given as goal
+
+abbrev pub invariant-loop-q : goal.invariant-loop-q
+invariant-loop-q l =
+    (l.q ≤ length l.bytes) × ((l.next ≡ l.at + 2 * l.q) × ((length l.out ≡ length l.initial.out) × (l.out ≡ over l.initial.out l.at (hex (take l.q l.bytes)))))
+
+abbrev pub decreases-loop-q : goal.decreases-loop-q
+decreases-loop-q l = length l.bytes - l.q

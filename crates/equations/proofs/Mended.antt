@@ -60,7 +60,7 @@ module _ (k r l : ℕ) (fits : k + r ≤ 255) (es : List ℕ) (asc : Ascending 0
     unfolding stripe_mended
     mended_bytes =
         columns_bytes (k + r) l _
-        (λ p. over.mended-bytes (points k r) (points_bytes k r) (points_apart k r fits) es lost_points (word xs p) (word_long xs p) (word_bytes p))
+        (λ p. over.mended_bytes (points k r) (points_bytes k r) (points_apart k r fits) es lost_points (word xs p) (word_long xs p) (word_bytes p))
 
     -- what survives stays
     pub mended_agrees : Agree (k + r) l es xs (stripe_mended k r l es xs)
@@ -69,7 +69,7 @@ module _ (k r l : ℕ) (fits : k + r ≤ 255) (es : List ℕ) (asc : Ascending 0
         (λ p hp.
         subst (λ (ys : List ℕ). AgreeOff (k + r) es (word xs p) ys) (sym (mended_across xs p hp))
         (subst (λ (n : ℕ). AgreeOff n es (word xs p) (mended (points k r) es (word xs p))) (points-length k r)
-        (over.mended-agrees (points k r) (points_bytes k r) (points_apart k r fits) es lost_points (word xs p) (word_long xs p))))
+        (over.mended_agrees (points k r) (points_bytes k r) (points_apart k r fits) es lost_points (word xs p) (word_long xs p))))
 
     -- it is a codeword exactly when the sums that were not solved by agree
     pub mended_codeword : Codeword k r l (stripe_mended k r l es xs) ↔ Mendable k r l es xs
@@ -78,7 +78,7 @@ module _ (k r l : ℕ) (fits : k + r ≤ 255) (es : List ℕ) (asc : Ascending 0
       λ w p hp s few m.
           (place p).0
           (record {
-            bytes = over.mended-bytes (points k r) (points_bytes k r) (points_apart k r fits) es lost_points (word xs p) (word_long xs p) (word_bytes p);
+            bytes = over.mended_bytes (points k r) (points_bytes k r) (points_apart k r fits) es lost_points (word xs p) (word_long xs p) (word_bytes p);
             long = over.mended-length (points k r) (points_bytes k r) (points_apart k r fits) es lost_points (word xs p) (word_long xs p);
             zero_sums = λ u hu. ap (λ (ys : List ℕ). sum_at (points k r) ys u) (sym (mended_across xs p hp)) ∙ w.zero_sums p u hp hu;
           })
@@ -92,7 +92,7 @@ module _ (k r l : ℕ) (fits : k + r ≤ 255) (es : List ℕ) (asc : Ascending 0
     )
       where
         place : (p : ℕ) → Word (points k r) r (mended (points k r) es (across xs l p 0 (k + r))) ↔ Consistent (points k r) r es (across xs l p 0 (k + r))
-        place p = over.mended-word (points k r) (points_bytes k r) (points_apart k r fits) es lost_points r (word xs p) (word_bytes p) (word_long xs p)
+        place p = over.mended_word_lem (points k r) (points_bytes k r) (points_apart k r fits) es lost_points r (word xs p) (word_bytes p) (word_long xs p)
 
     -- and with r columns lost always
     pub mended_full : length es ≡ r → Codeword k r l (stripe_mended k r l es xs)
@@ -113,7 +113,7 @@ module _ (k r l : ℕ) (fits : k + r ≤ 255) (es : List ℕ) (asc : Ascending 0
       where
         same : (p : ℕ) → p < l → across ys l p 0 (k + r) ≡ across (stripe_mended k r l es xs) l p 0 (k + r)
         same p hp =
-            one.mended-only k r fits es lost few (across xs l p 0 (k + r)) (across ys l p 0 (k + r)) (across_bytes xs l p 0 (k + r) b)
+            one.mended_only k r fits es lost few (across xs l p 0 (k + r)) (across ys l p 0 (k + r)) (across_bytes xs l p 0 (k + r) b)
             (across-length xs l p 0 (k + r)) (word_of ys w p hp) (agree_words xs ys agree p hp)
             ∙ sym (mended_across xs p hp)
 
@@ -139,7 +139,7 @@ module _ (k r l : ℕ) (fits : k + r ≤ 255) (es : List ℕ) (asc : Ascending 0
       same : (p : ℕ) → p < l → across (stripe_mended k r l es xs) l p 0 (k + r) ≡ across (stripe_mended k r l es ys) l p 0 (k + r)
       same p hp =
           mended_across xs p hp
-          ∙ over.mended-same (points k r) (points_bytes k r) (points_apart k r fits) es lost_points (word xs p) (word ys p) (word_bytes xs bx p)
+          ∙ over.mended_same (points k r) (points_bytes k r) (points_apart k r fits) es lost_points (word xs p) (word ys p) (word_bytes xs bx p)
           (word_bytes ys by p) (word_long xs p) (word_long ys p)
           (subst (λ (n : ℕ). AgreeOff n es (word xs p) (word ys p)) (sym (points-length k r)) (agree_words xs ys agree p hp))
           ∙ sym (mended_across ys p hp)

@@ -39,7 +39,7 @@ module _ (k r : ℕ) (fits : k + r ≤ 255) (is : List ℕ) (lost : Positions (k
   -- the mended word is a codeword exactly when the sums that were not solved by agree
   pub mended_codeword : (xs : List ℕ) → Bytes xs → length xs ≡ k + r → Codeword k r (mended (points k r) is xs) ↔ Consistent (points k r) r is xs
   mended_codeword xs b long =
-      over.mended-word (points k r) (points_bytes k r) (points_apart k r fits) is lost_points r xs b (long ∙ sym (points-length k r))
+      over.mended_word_lem (points k r) (points_bytes k r) (points_apart k r fits) is lost_points r xs b (long ∙ sym (points-length k r))
 
   -- and so it is exactly when any codeword agrees with the survivors
   pub mendable : length is ≤ r → (xs : List ℕ) → Bytes xs → length xs ≡ k + r
@@ -56,7 +56,7 @@ module _ (k r : ℕ) (fits : k + r ≤ 255) (is : List ℕ) (lost : Positions (k
   pub mended_only : length is ≤ r → (xs ys : List ℕ) → Bytes xs → length xs ≡ k + r → Codeword k r ys → AgreeOff (k + r) is xs ys
       → ys ≡ mended (points k r) is xs
   mended_only few xs ys b long w h =
-      over.word-only (points k r) (points_bytes k r) (points_apart k r fits) is lost_points r few xs ys b (long ∙ sym (points-length k r)) w (off xs ys h)
+      over.word_only (points k r) (points_bytes k r) (points_apart k r fits) is lost_points r few xs ys b (long ∙ sym (points-length k r)) w (off xs ys h)
 
 -- ---- encoding is mending, the parity lost
 

@@ -6,13 +6,14 @@ use Rattle.number.proofs.Placed.{none_placed, all_placed}
 use Rattle.number.proofs.write_number.Goals as goal
 
 pub returns-then-out-n : goal.returns-then-out-n
-returns-then-out-n c =
-    let a = c.args in none_placed a.out.now a.at (written a.value) (omega (arith, c.number_length-n.ensures))
+returns-then-out-n c = let a = c.args in
+    let both = none_placed a.out.now a.at (written a.value) (omega (arith, c.number_length-n.ensures)) in
+    record { value = both.0; out_after = both.1 }
 
 pub returns-then-out-n-2 : goal.returns-then-out-n-2
-returns-then-out-n-2 c =
-    let a = c.args in
-    none_placed a.out.now a.at (written a.value) (omega (arith, c.number_length-n.ensures))
+returns-then-out-n-2 c = let a = c.args in
+    let both = none_placed a.out.now a.at (written a.value) (omega (arith, c.number_length-n.ensures)) in
+    record { value = both.0; out_after = both.1 }
 
 pub returns : goal.returns
 returns c = let a = c.args in

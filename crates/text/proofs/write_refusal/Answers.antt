@@ -6,9 +6,9 @@ use Rattle.text.proofs.Printed.{none_put, text_put, unprintable_refusal, printed
 use Rattle.text.proofs.write_refusal.Goals as goal
 
 pub returns-then-out-lt40 : goal.returns-then-out-lt40
-returns-then-out-lt40 c =
-    let a = c.args in
-    none_put a.out.now (refusal_printed a.number (length a.out.now)) (unprintable_refusal a.number (length a.out.now) c.if-out-lt40.true)
+returns-then-out-lt40 c = let a = c.args in
+    let both = none_put a.out.now (refusal_printed a.number (length a.out.now)) (unprintable_refusal a.number (length a.out.now) c.if-out-lt40.true) in
+    record { value = both.0; out_after = both.1 }
 
 pub put_number-requires : goal.put_number-requires
 unfolding refusal_text

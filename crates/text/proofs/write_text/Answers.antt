@@ -11,11 +11,11 @@ use Rattle.text.proofs.Printed.{none_put, text_put, unprintable, printable_says,
 use Rattle.text.proofs.write_text.Goals as goal
 
 pub returns-then-not-can_print : goal.returns-then-not-can_print
-returns-then-not-can_print c =
-    let a = c.args in
+returns-then-not-can_print c = let a = c.args in
     let n = length a.out.now in
-    none_put a.out.now (stripe_printed a.s a.lost.now a.stripe.now n)
-    (unprintable a.s a.lost.now a.stripe.now n (sym c.can_print.ensures ∙ not-true _ c.if-not-can_print.true))
+    let both = none_put a.out.now (stripe_printed a.s a.lost.now a.stripe.now n)
+    (unprintable a.s a.lost.now a.stripe.now n (sym c.can_print.ensures ∙ not-true _ c.if-not-can_print.true)) in
+    record { value = both.0; out_after = both.1 }
 
 pub put_first-next-requires : goal.put_first-next-requires
 unfolding stripe_text

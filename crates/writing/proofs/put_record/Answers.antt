@@ -6,15 +6,9 @@ use Rattle.writing.proofs.Putting.{writable, lost_most, columns_bytes, record_pu
 use Rattle.writing.proofs.put_record.Goals as goal
 
 pub put_head-first-requires : goal.put_head-first-requires
-put_head-first-requires c =
-    let a = c.args in
-    let w = writable a.s a.stripe.now a.lost.now (length a.out.now) c.requires in (
-      w.stripe_described,
-      (
-        lost_most a.s a.stripe.now a.lost.now (length a.out.now) w,
-        omega (arith, columns_bytes a.s a.stripe.now a.lost.now (length a.out.now) w, w.fits),
-      ),
-    )
+put_head-first-requires c = let a = c.args in
+    let w = writable a.s a.stripe.now a.lost.now (length a.out.now) c.requires in
+    record { s_value = w.stripe_described; lost_len_bound = lost_most a.s a.stripe.now a.lost.now (length a.out.now) w; lost_in_bounds = omega (arith, columns_bytes a.s a.stripe.now a.lost.now (length a.out.now) w, w.fits) }
 
 pub overflow_add-s : goal.overflow_add-s
 overflow_add-s c =

@@ -4,10 +4,9 @@ use Rattle.coding.proofs.Encoded.{encoded_refused, encoded_done}
 use Rattle.coding.proofs.encode.encode.Goals as goal
 
 pub returns-then-no-ne0 : goal.returns-then-no-ne0
-returns-then-no-ne0 c =
-    let a = c.args in
+returns-then-no-ne0 c = let a = c.args in
     let e = c.lent_refusal-no.ensures in
-    (e, encoded_refused a.s a.«data».now a.parity.now (λ z. c.if-no-ne0.true (e ∙ z)))
+    record { value = e; parity_after = encoded_refused a.s a.«data».now a.parity.now (λ z. c.if-no-ne0.true (e ∙ z)) }
 
 pub returns : goal.returns
 returns c = let a = c.args in

@@ -20,21 +20,22 @@ overflow_cast-place c =
     omega (arith, n.0, n.1)
 
 pub returns-in-Nowhere : goal.returns-in-Nowhere
-returns-in-Nowhere c =
-    let a = c.args in
-    leaves _ _ a.«data».now a.parity.now Nowhere a.column.now a.place.now _ _ _ c.shape_of-s.ensures
-    (sym c.enum_told-1.given.1 ∙ c.first_wrong-wrong.ensures) (refl, (refl, refl))
+returns-in-Nowhere c = let a = c.args in
+    let both = leaves _ _ a.«data».now a.parity.now Nowhere a.column.now a.place.now _ _ _ c.shape_of-s.ensures
+    (sym c.enum_told-1.given.1 ∙ c.first_wrong-wrong.ensures) (refl, (refl, refl)) in
+    record { value = both.0; column_after = both.1.0; place_after = both.1.1 }
 
 pub returns-in-Refused : goal.returns-in-Refused
-returns-in-Refused c =
-    let a = c.args in
+returns-in-Refused c = let a = c.args in
     let w = c.wrong-1.given in
-    leaves _ _ a.«data».now a.parity.now (Refused w.0.0) a.column.now a.place.now _ _ _
-    c.shape_of-s.ensures (sym w.1 ∙ c.first_wrong-wrong.ensures) (refl, (refl, refl))
+    let both = leaves _ _ a.«data».now a.parity.now (Refused w.0.0) a.column.now a.place.now _ _ _
+    c.shape_of-s.ensures (sym w.1 ∙ c.first_wrong-wrong.ensures) (refl, (refl, refl)) in
+    record { value = both.0; column_after = both.1.0; place_after = both.1.1 }
 
 pub returns-in-At : goal.returns-in-At
-returns-in-At c =
-    let a = c.args in
-    let w = c.wrong-in-At-1.given in
+returns-in-At c = let a = c.args in
+    let w = c.wrong-in
+    let both = -At-1.given in
     leaves _ _ a.«data».now a.parity.now (At w.0.0 w.0.1.0) a.column.now a.place.now _ _ _
-    c.shape_of-s.ensures (sym w.1 ∙ c.first_wrong-wrong.ensures) (refl, (refl, refl))
+    c.shape_of-s.ensures (sym w.1 ∙ c.first_wrong-wrong.ensures) (refl, (refl, refl)) in
+    record { value = both.0; column_after = both.1.0; place_after = both.1.1 }

@@ -5,14 +5,14 @@ use Rattle.shelf.proofs.Recorded.{Wrote, write_refused, write_done}
 use Rattle.shelf.proofs.records.shelf_write_record.Goals as goal
 
 pub returns-then-written-ne0 : goal.returns-then-written-ne0
-returns-then-written-ne0 c =
-    let a = c.args in
+returns-then-written-ne0 c = let a = c.args in
     let w = c.write_record-written in
-    subst (λ (s : Shape). Wrote s a.stripe.now a.lost.now a.out.now a.length.now w.result.number w.new.out
+    let both = subst (λ (s : Shape). Wrote s a.stripe.now a.lost.now a.out.now a.length.now w.result.number w.new.out
     a.length.now)
     c.shape_of-s.ensures
     (write_refused _ a.stripe.now a.lost.now a.out.now a.length.now w.result _
-    w.ensures.value w.ensures.out_after c.if-written-ne0.true)
+    w.ensures.value w.ensures.out_after c.if-written-ne0.true) in
+    record { value = both.0; out_after = both.1.0; length_after = both.1.1 }
 
 pub returns : goal.returns
 returns c = let a = c.args in

@@ -20,9 +20,9 @@ put_word-requires c =
     omega (arith, e, c.requires)
 
 pub returns-then-mended : goal.returns-then-mended
-returns-then-mended c =
-    let e = c.if-mended.true in
-    state_put c.args.out.now _ c.args.at _ c.args.mended true e (c.put_word.ensures.value, c.put_word.ensures.out_after)
+returns-then-mended c = let e = c.if-mended.true in
+    let both = state_put c.args.out.now _ c.args.at _ c.args.mended true e (c.put_word.ensures.value, c.put_word.ensures.out_after) in
+    record { value = both.0; out_after = both.1 }
 
 pub put_word-requires-2 : goal.put_word-requires-2
 put_word-requires-2 c =

@@ -8,9 +8,10 @@ use borrow.Author.Rules.{rules}
 use Rattle.lagrange.proofs.Lanes.{set_turn}
 use Rattle.constants.proofs.Points.{entries_exact}
 use Rattle.constants.proofs.fill_chosen.Goals as goal
+use Rattle.constants.proofs.fill_chosen.Goals.{Joined-c-points}
 
 -- the entry that is stored
-chosen : (c : goal.Joined-c-points) → let a = c.args in
+chosen : (c : Joined-c-points) → let a = c.args in
     c.if-c-points.out ≡ get_or a.points.now (get_or a.at.now c.loop-v.v 0) 0
 chosen c =
     let ps = c.args.points.now in
@@ -26,7 +27,7 @@ pub loop-v-preserved : goal.loop-v-preserved
 loop-v-preserved c =
     let at = c.loop-v in
     let a = c.args in
-    let turn = set_turn at.out (λ q. get_or a.points.now (get_or a.at.now q 0) 0) at.v _ (search rules) (chosen c) at.invariant.2 in
+    let turn = set_turn at.out (λ q. get_or a.points.now (get_or a.at.now q 0) 0) at.v _ (search rules) (chosen (goal.at.loop-v-preserved c).Joined-c-points) at.invariant.2 in
     (search rules, search rules, turn)
 
 pub returns : goal.returns

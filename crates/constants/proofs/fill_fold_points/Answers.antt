@@ -9,21 +9,22 @@ use borrow.Author.Rules.{rules}
 use Rattle.stripe.proofs.Places.{column_inside}
 use Rattle.constants.proofs.Points.{part_filled, fold_start, fold_turn, fold_done}
 use Rattle.constants.proofs.fill_fold_points.Goals as goal
+use Rattle.constants.proofs.fill_fold_points.Goals.{In-loop-i}
 
 -- the points of stripe i lie in the buffer
-inside : (c : goal.In-loop-i) → let r = c.args.r in
+inside : (c : In-loop-i) → let r = c.args.r in
     c.loop-i.i * r + r ≤ length c.loop-i.out
 inside c =
     let r = c.args.r in
     omega (arith, column_inside c.loop-i.i _ r c.loop-i-test.true, c.loop-i.invariant.1.long)
 
 -- and there are few of them
-few : (c : goal.In-loop-i) → let r = c.args.r in c.loop-i.i * r + r ≤ 255
+few : (c : In-loop-i) → let r = c.args.r in c.loop-i.i * r + r ≤ 255
 few c =
     omega (arith, column_inside c.loop-i.i _ c.args.r c.loop-i-test.true, c.requires.1.1.1.1)
 
 -- the exponent of the first is small
-exponent : (c : goal.In-loop-i) → c.loop-i.i * c.args.k ≤ 65025
+exponent : (c : In-loop-i) → c.loop-i.i * c.args.k ≤ 65025
 exponent c =
     let most : c.loop-i.i ≤ 255 = omega (arith, c.loop-i-test.true, c.requires.1.1.1.0) in
     mul-le-mul most c.requires.1.0
@@ -32,29 +33,29 @@ pub loop-i-init : goal.loop-i-init
 loop-i-init c = (search rules, fold_start _ _ _ _ c.requires.0)
 
 pub overflow_mul-a : goal.overflow_mul-a
-overflow_mul-a c = omega (arith, few c)
+overflow_mul-a c = omega (arith, few (goal.at.overflow_mul-a c).In-loop-i)
 
 pub overflow_add-e : goal.overflow_add-e
-overflow_add-e c = omega (arith, few c)
+overflow_add-e c = omega (arith, few (goal.at.overflow_add-e c).In-loop-i)
 
 pub slice_bounds-descending-end : goal.slice_bounds-descending-end
-slice_bounds-descending-end c = omega (arith, inside c)
+slice_bounds-descending-end c = omega (arith, inside (goal.at.slice_bounds-descending-end c).In-loop-i)
 
 pub overflow_mul-i : goal.overflow_mul-i
-overflow_mul-i c = omega (arith, exponent c.before)
+overflow_mul-i c = omega (arith, exponent (goal.at.overflow_mul-i c).In-loop-i)
 
 pub overflow_add-i : goal.overflow_add-i
-overflow_add-i c = omega (arith, exponent c.before)
+overflow_add-i c = omega (arith, exponent (goal.at.overflow_add-i c).In-loop-i)
 
 pub descending-requires : goal.descending-requires
 descending-requires c =
-    let part = mid_len (c.loop-i.i * c.args.r) _ c.loop-i.out (inside c.before) in
-    (omega (arith, part, few c.before), omega (arith, exponent c.before))
+    let part = mid_len (c.loop-i.i * c.args.r) _ c.loop-i.out (inside (goal.at.descending-requires c).In-loop-i) in
+    (omega (arith, part, few (goal.at.descending-requires c).In-loop-i), omega (arith, exponent (goal.at.descending-requires c).In-loop-i))
 
 pub loop-i-preserved : goal.loop-i-preserved
 loop-i-preserved c =
     let at = c.loop-i in
-    let filled = part_filled _ _ _ at.out _ (inside c.before.before.before.before) c.descending.ensures in
+    let filled = part_filled _ _ _ at.out _ (inside (goal.at.loop-i-preserved c).In-loop-i) c.descending.ensures in
     (search rules, fold_turn at.i c.loop-i-test.true filled at.invariant.1)
 
 pub shape_of-out : goal.shape_of-out

@@ -16,6 +16,7 @@ use Rattle.fold.proofs.Filling.{reads_parity, marked_by_rows}
 use Rattle.fold.proofs.Encoded.{encoded_fold}
 use Rattle.fold.proofs.ByPoints.{points_new, reads_columns}
 use Rattle.fold.proofs.fill.Goals as goal
+use Rattle.fold.proofs.fill.Goals.{Else-s-gt-MOST_ROWS}
 
 a_not_c : A ≡ C → ⊥
 a_not_c e = let z : ◌≡◌ {A = ℕ} 0 1 = cc in omega arith
@@ -35,7 +36,7 @@ returns-then-s-gt-MOST_ROWS c =
     (sym (points_new _ _ _ c.requires.0 c.if-s-gt-MOST_ROWS.true))
 
 -- by rows, kind A
-plain : (c : goal.Else-s-gt-MOST_ROWS) → let a = c.args in
+plain : (c : Else-s-gt-MOST_ROWS) → let a = c.args in
     ReadsPlain a.s a.stripes a.f (length a.read.now) (length a.parity.now)
 plain c =
     let is = sym c.kind_of-kind.ensures ∙ c.enum_told-1.given.1 in
@@ -43,14 +44,14 @@ plain c =
 
 pub last_exponent-e-requires : goal.last_exponent-e-requires
 last_exponent-e-requires c =
-    let able = foldable _ _ _ (plain c).passed in
+    let able = foldable _ _ _ (plain (goal.at.last_exponent-e-requires c).Else-s-gt-MOST_ROWS).passed in
     (able.new_some, (able.new_most, able.shape.data_most))
 
 pub fill_plain-requires : goal.fill_plain-requires
-fill_plain-requires c = plain c.before.before.before.before
+fill_plain-requires c = plain (goal.at.fill_plain-requires c).Else-s-gt-MOST_ROWS
 
 pub fill_plain-requires-then-beats_shifts : goal.fill_plain-requires-then-beats_shifts
-fill_plain-requires-then-beats_shifts c = plain c.before.before.before.before.before.before
+fill_plain-requires-then-beats_shifts c = plain (goal.at.fill_plain-requires-then-beats_shifts c).Else-s-gt-MOST_ROWS
 
 pub fill_by_points-requires-then-s-gt-MOST_ROWS-2 : goal.fill_by_points-requires-then-s-gt-MOST_ROWS-2
 fill_by_points-requires-then-s-gt-MOST_ROWS-2 c =
@@ -65,7 +66,7 @@ returns-then-s-gt-MOST_ROWS-2 c =
 -- by rows, kinds A and B, stripe by stripe
 pub fill_parity-requires : goal.fill_parity-requires
 fill_parity-requires c =
-    let p = plain c.before.before.before.before.before.before in
+    let p = plain (goal.at.fill_parity-requires c).Else-s-gt-MOST_ROWS in
     (reads_parity _ _ _ c.requires.0 p.rows (λ e. a_not_c (sym p.kind ∙ e)), c.requires)
 
 pub fill_parity-requires-in-B : goal.fill_parity-requires-in-B

@@ -3,7 +3,6 @@ use mathlib.Core.Path.{sym, ap, ◌∙◌}
 use Prim.Native.Nat.{ℕ}
 use native.Mathlib.Omega.{arith}
 use lib.Dec.{eqb}
-use borrow.Author.Tests.{not-true, not-false}
 use Rattle.plan.proofs.Bounds.{fits, new_product}
 use Rattle.plan.proofs.Foldable.{foldable}
 use Rattle.plan.proofs.Refusals.{shape_passed}
@@ -18,7 +17,7 @@ returns-then-not-is c =
     let a = c.args.a in
     let same = c.is.ensures ∙ ap (λ (x : ℕ). eqb a x) c.bytes_read.ensures in
     let p = sym c.fold_refusal-no.ensures ∙ c.if-no-ne0.false in
-    by_read _ _ _ _ _ p (sym same ∙ not-true _ c.if-not-is.true)
+    by_read _ _ _ _ _ p (sym same ∙ c.if-not-is.true)
 
 pub overflow_mul-f : goal.overflow_mul-f
 overflow_mul-f c =
@@ -30,11 +29,11 @@ returns-then-b-f c =
     let a = c.args.a in
     let p = sym c.fold_refusal-no.ensures ∙ c.if-no-ne0.false in
     let same = c.is.ensures ∙ ap (λ (x : ℕ). eqb a x) c.bytes_read.ensures in
-    by_filled _ _ _ _ _ p (sym same ∙ not-false _ c.if-not-is.false) c.if-b-f.true
+    by_filled _ _ _ _ _ p (sym same ∙ c.if-not-is.false) c.if-b-f.true
 
 pub returns : goal.returns
 returns c =
     let a = c.args.a in
     let p = sym c.fold_refusal-no.ensures ∙ c.if-no-ne0.false in
     let same = c.is.ensures ∙ ap (λ (x : ℕ). eqb a x) c.bytes_read.ensures in
-    by_nothing _ _ _ _ _ p (sym same ∙ not-false _ c.if-not-is.false) c.if-b-f.false
+    by_nothing _ _ _ _ _ p (sym same ∙ c.if-not-is.false) c.if-b-f.false

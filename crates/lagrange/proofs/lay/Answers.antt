@@ -6,9 +6,10 @@ use lib.ListN.{length}
 use borrow.Author.Rules.{rules}
 use Rattle.lagrange.proofs.Lanes.{laid_start, laid_turn, laid_done}
 use Rattle.lagrange.proofs.lay.Goals as goal
+use Rattle.lagrange.proofs.lay.Goals.{In-loop-v}
 
 -- row v lies in the buffer
-inside : (c : goal.In-loop-v) → let m = c.args.m in
+inside : (c : In-loop-v) → let m = c.args.m in
     c.loop-v.v * m + m ≤ length c.loop-v.out
 inside c =
     let m = c.args.m in
@@ -18,16 +19,16 @@ pub loop-v-init : goal.loop-v-init
 loop-v-init c = (search rules, laid_start _ _ _ _ _)
 
 pub overflow_mul-o : goal.overflow_mul-o
-overflow_mul-o c = omega (arith, inside c)
+overflow_mul-o c = omega (arith, inside (goal.at.overflow_mul-o c).In-loop-v)
 
 pub overflow_add-o : goal.overflow_add-o
-overflow_add-o c = omega (arith, inside c)
+overflow_add-o c = omega (arith, inside (goal.at.overflow_add-o c).In-loop-v)
 
 pub overflow_add-e : goal.overflow_add-e
-overflow_add-e c = omega (arith, inside c)
+overflow_add-e c = omega (arith, inside (goal.at.overflow_add-e c).In-loop-v)
 
 pub slice_bounds-copy-end : goal.slice_bounds-copy-end
-slice_bounds-copy-end c = omega (arith, inside c)
+slice_bounds-copy-end c = omega (arith, inside (goal.at.slice_bounds-copy-end c).In-loop-v)
 
 pub loop-v-preserved : goal.loop-v-preserved
 loop-v-preserved c =
@@ -35,7 +36,7 @@ loop-v-preserved c =
     let at = c.loop-v in
     let copied = c.copy.ensures in (
       search rules,
-      laid_turn c.args.m c.args.at c.args.w at.v h.1.1.1.1.0 h.1.1.0 (omega arith) (inside c.before.before.before.before.before) copied at.invariant.1,
+      laid_turn c.args.m c.args.at c.args.w at.v h.1.1.1.1.0 h.1.1.0 (omega arith) (inside (goal.at.loop-v-preserved c).In-loop-v) copied at.invariant.1,
     )
 
 pub returns : goal.returns

@@ -7,9 +7,10 @@ use lib.ListN.{length}
 use Rattle.matrix.proofs.Digits.{all_turn}
 use borrow.Author.Rules.{rules}
 use Rattle.matrix.proofs.all_numbers.Goals as goal
+use Rattle.matrix.proofs.all_numbers.Goals.{In-loop-s}
 
 -- a row lies in the matrix
-inside : (c : goal.In-loop-s) → let a = c.args in
+inside : (c : In-loop-s) → let a = c.args in
     c.loop-s.s * a.m + a.m ≤ length a.matrix.now
 inside c =
     let m = c.args.m in
@@ -19,15 +20,15 @@ pub loop-s-init : goal.loop-s-init
 loop-s-init c = (search rules, search rules, record { at = λ s h. absurd (not-suc-le-zero h) })
 
 pub overflow_mul-s-in-loop-s : goal.overflow_mul-s-in-loop-s
-overflow_mul-s-in-loop-s c = omega (arith, inside c.before)
+overflow_mul-s-in-loop-s c = omega (arith, inside (goal.at.overflow_mul-s-in-loop-s c).In-loop-s)
 
 pub overflow_add-s : goal.overflow_add-s
-overflow_add-s c = omega (arith, inside c.before)
+overflow_add-s c = omega (arith, inside (goal.at.overflow_add-s c).In-loop-s)
 
 pub row_numbers-requires : goal.row_numbers-requires
 row_numbers-requires c =
     let h = c.requires in
-    (omega arith, (h.1.1.0, omega (arith, inside c.before)))
+    (omega arith, (h.1.1.0, omega (arith, inside (goal.at.row_numbers-requires c).In-loop-s)))
 
 pub loop-s-preserved : goal.loop-s-preserved
 loop-s-preserved c =

@@ -6,46 +6,47 @@ use lib.ListN.{get_or}
 use Rattle.matrix.proofs.Turns.{bit_start, bit_turn, bit_done}
 use borrow.Author.Rules.{rules}
 use Rattle.matrix.proofs.bit_step.Goals as goal
+use Rattle.matrix.proofs.bit_step.Goals.{After-wide, Start}
 
-first_small : (s : goal.Start) → get_or s.args.es.now s.args.row 0 < 16
+first_small : (s : Start) → get_or s.args.es.now s.args.row 0 < 16
 first_small s =
     let r : s.args.row + 0 * 8 ≡ s.args.row = omega arith in
     subst (λ (x : ℕ). get_or s.args.es.now x 0 < 16) r (s.requires.1.1.1.1 0 (omega arith))
 
 pub overflow_mul-first : goal.overflow_mul-first
-overflow_mul-first c = omega (arith, first_small c.before.before.before.before, c.wide-first.ensures)
+overflow_mul-first c = omega (arith, first_small (goal.at.overflow_mul-first c).Start, c.wide-first.ensures)
 
 pub overflow_add-last : goal.overflow_add-last
-overflow_add-last c = omega (arith, first_small c.before.before.before.before, c.wide-first.ensures)
+overflow_add-last c = omega (arith, first_small (goal.at.overflow_add-last c).Start, c.wide-first.ensures)
 
 pub slice_bounds-double_add-end-2 : goal.slice_bounds-double_add-end-2
-slice_bounds-double_add-end-2 c = omega (arith, first_small c.before.before.before.before.before, c.wide-first.ensures)
+slice_bounds-double_add-end-2 c = omega (arith, first_small (goal.at.slice_bounds-double_add-end-2 c).Start, c.wide-first.ensures)
 
 pub loop-g-init : goal.loop-g-init
 loop-g-init c = (search rules, search rules, bit_start _ _ _ _)
 
 -- the number of group g is that of a sum
-number_small : (c : goal.After-wide) → c.wide.result < 16
+number_small : (c : After-wide) → c.wide.result < 16
 number_small c =
     omega (arith, c.requires.1.1.1.1 c.loop-g.g c.loop-g-test.true, c.wide.ensures)
 
 pub overflow_add-o : goal.overflow_add-o
-overflow_add-o c = omega (arith, number_small c)
+overflow_add-o c = omega (arith, number_small (goal.at.overflow_add-o c).After-wide)
 
 pub overflow_mul-o-in-loop-g : goal.overflow_mul-o-in-loop-g
-overflow_mul-o-in-loop-g c = omega (arith, number_small c)
+overflow_mul-o-in-loop-g c = omega (arith, number_small (goal.at.overflow_mul-o-in-loop-g c).After-wide)
 
 pub overflow_add-e : goal.overflow_add-e
-overflow_add-e c = omega (arith, number_small c)
+overflow_add-e c = omega (arith, number_small (goal.at.overflow_add-e c).After-wide)
 
 pub slice_bounds-add-end-in-loop-g : goal.slice_bounds-add-end-in-loop-g
-slice_bounds-add-end-in-loop-g c = omega (arith, number_small c.before)
+slice_bounds-add-end-in-loop-g c = omega (arith, number_small (goal.at.slice_bounds-add-end-in-loop-g c).After-wide)
 
 pub loop-g-preserved : goal.loop-g-preserved
 loop-g-preserved c =
     let at = c.loop-g in
     let e = c.wide.ensures in
-    let few = number_small c.before.before.before in
+    let few = number_small (goal.at.loop-g-preserved c).After-wide in
     let o = (at.g * 16 + c.wide.result) * 64 in
     let t = c.args.t.now in
     let es = c.args.es.now in
@@ -53,7 +54,7 @@ loop-g-preserved c =
 
 pub returns : goal.returns
 returns c =
-    let few = first_small c.before.before.before.before.before.before.before.before.before in
+    let few = first_small (goal.at.returns c).Start in
     let e = c.wide-first.ensures in
     let o = c.wide-first.result * 64 in
     let first = c.double_add.ensures in

@@ -6,9 +6,10 @@ use lib.ListN.{length}
 use Rattle.matrix.proofs.Blocks.{rowed_start, rowed_turn, rowed_done}
 use borrow.Author.Rules.{rules}
 use Rattle.matrix.proofs.rows_block.Goals as goal
+use Rattle.matrix.proofs.rows_block.Goals.{In-loop-s}
 
 -- a row lies in the buffer
-inside : (c : goal.In-loop-s) → let count = c.args.count in
+inside : (c : In-loop-s) → let count = c.args.count in
     c.loop-s.s * count + count ≤ length c.loop-s.out
 inside c =
     let h = c.requires in
@@ -25,13 +26,13 @@ straight-y-requires c =
     (h.0, (omega arith, (h.1.1.1.0, (h.1.1.1.1.0, (r.0, r.1 c.loop-s.s c.loop-s-test.true)))))
 
 pub overflow_mul-s-in-loop-s : goal.overflow_mul-s-in-loop-s
-overflow_mul-s-in-loop-s c = omega (arith, inside c.before.before)
+overflow_mul-s-in-loop-s c = omega (arith, inside (goal.at.overflow_mul-s-in-loop-s c).In-loop-s)
 
 pub overflow_add-s : goal.overflow_add-s
-overflow_add-s c = omega (arith, inside c.before.before)
+overflow_add-s c = omega (arith, inside (goal.at.overflow_add-s c).In-loop-s)
 
 pub lay-requires : goal.lay-requires
-lay-requires c = (omega (arith, inside c.before.before.before), search rules)
+lay-requires c = (omega (arith, inside (goal.at.lay-requires c).In-loop-s), search rules)
 
 pub loop-s-preserved : goal.loop-s-preserved
 loop-s-preserved c =

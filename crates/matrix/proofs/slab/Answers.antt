@@ -7,9 +7,10 @@ use Rattle.matrix.specs.Sums.{Inside}
 use Rattle.matrix.proofs.Blocks.{part_inside, least_some, all_small, edge_start, edge_turn, edge_done}
 use borrow.Author.Rules.{rules}
 use Rattle.matrix.proofs.slab.Goals as goal
+use Rattle.matrix.proofs.slab.Goals.{After-shorter-w}
 
 -- what is taken lies in the columns
-inside : (c : goal.After-shorter-w) → let a = c.args in
+inside : (c : After-shorter-w) → let a = c.args in
     Inside a.columns.now a.cs.now (a.from + c.loop-at.at) a.stride c.shorter-w.result
 inside c =
     let a = c.args in
@@ -24,12 +25,12 @@ loop-at-init c =
 pub overflow_add-from : goal.overflow_add-from
 overflow_add-from c =
     let h = c.requires in
-    omega (arith, inside c.before 0 (omega (arith, h.1.0, h.1.1.1.0)))
+    omega (arith, inside (goal.at.overflow_add-from c).After-shorter-w 0 (omega (arith, h.1.0, h.1.1.1.0)))
 
 pub tables-requires : goal.tables-requires
 tables-requires c =
     let h = c.requires in
-    (omega arith, (h.1.1.0, (h.1.1.1.0, (c.shorter-w.ensures.0, λ i less. omega (arith, inside c.before i less)))))
+    (omega arith, (h.1.1.0, (h.1.1.1.0, (c.shorter-w.ensures.0, λ i less. omega (arith, inside (goal.at.tables-requires c).After-shorter-w i less)))))
 
 pub rows_block-requires : goal.rows_block-requires
 rows_block-requires c =

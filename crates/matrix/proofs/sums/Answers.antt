@@ -7,15 +7,16 @@ use Rattle.matrix.proofs.Parts.{summed_start, summed_turn, summed_done, power_ne
 use Rattle.matrix.proofs.Groups.{pow_small}
 use borrow.Author.Rules.{rules}
 use Rattle.matrix.proofs.sums.Goals as goal
+use Rattle.matrix.proofs.sums.Goals.{After-wide, Start}
 
 pub loop-j-init : goal.loop-j-init
 loop-j-init c = (search rules, search rules, summed_start _ _ _ _ _ _ _ (omega arith) _ _ c.put.ensures)
 
-abbrev start : goal.After-wide → goal.Start
+abbrev start : After-wide → Start
 start c = c.before.before.before.before.before.before.before.before.before.before.before.before
 
 -- column j lies in the columns
-inside : (c : goal.After-wide) → let a = (start c).args in a.from + c.wide.result * a.stride + a.w ≤ length a.columns.now
+inside : (c : After-wide) → let a = (start c).args in a.from + c.wide.result * a.stride + a.w ≤ length a.columns.now
 inside c =
     let s = start c in
     let at = c.loop-j in
@@ -23,18 +24,18 @@ inside c =
     (s.pre.1.1.1.1.1 (s.args.i + at.j) (omega (arith, s.pre.1.1.1.0, c.loop-j-test.true)))
 
 pub overflow_mul-wide : goal.overflow_mul-wide
-overflow_mul-wide c = omega (arith, inside c)
+overflow_mul-wide c = omega (arith, inside (goal.at.overflow_mul-wide c).After-wide)
 
 pub overflow_add-from : goal.overflow_add-from
-overflow_add-from c = omega (arith, inside c)
+overflow_add-from c = omega (arith, inside (goal.at.overflow_add-from c).After-wide)
 
 pub block-d-requires : goal.block-d-requires
-block-d-requires c = (inside c, search rules)
+block-d-requires c = (inside (goal.at.block-d-requires c).After-wide, search rules)
 
 pub widen-requires : goal.widen-requires
 widen-requires c =
     let at = c.loop-j in
-    let h = (start c.before.before.before).pre in
+    let h = (start (goal.at.widen-requires c).After-wide).pre in
     (omega arith, (h.1.0, omega (arith, at.invariant.1, pow_small at.j (omega arith))))
 
 pub overflow_mul-have : goal.overflow_mul-have
@@ -45,7 +46,7 @@ overflow_mul-have c =
 pub loop-j-preserved : goal.loop-j-preserved
 loop-j-preserved c =
     let at = c.loop-j in
-    let s = start c.before.before.before.before.before.before in
+    let s = start (goal.at.loop-j-preserved c).After-wide in
     let a = s.args in
     let is : a.from + c.wide.result * a.stride ≡ a.from + get_or a.cs.now (a.i + at.j) 0 * a.stride =
     ap (λ (x : ℕ). a.from + x * a.stride) c.wide.ensures in

@@ -2,7 +2,6 @@
 use Prim.Native.Nat.{ℕ}
 use mathlib.Core.Path.{◌≡◌, refl, sym, subst, ◌∙◌}
 use mathlib.Core.Logic.{inl, inr}
-use borrow.Author.Tests.{not-true, not-false}
 use Rattle.field.specs.Bytes.{Bytes}
 use Rattle.stripe.specs.declared.Shape.{Shape}
 use Rattle.stripe.specs.Shape.{parity_length, stripe_length}
@@ -52,7 +51,7 @@ returns-then-not-settle c =
         refl,
         λ zs r.
             none_restored a.s w.0.shape p.result p.ensures.1 a.stripe.now bytes
-            (c.settle.ensures.not_so a.stripe.now bytes (c.solve_runs.ensures.all a.stripe.now bytes sy) (not-true _ c.if-not-settle.true)) zs
+            (c.settle.ensures.not_so a.stripe.now bytes (c.solve_runs.ensures.all a.stripe.now bytes sy) (c.if-not-settle.true)) zs
             (subst (λ (l : Few). Restored a.s (few_list l) a.stripe.now zs) (sym p.ensures.0) r),
       ),
     )
@@ -84,5 +83,5 @@ returns c =
       subst (λ (l : Few). Restored a.s (few_list l) a.stripe.now e.new.stripe) p.ensures.0
           (restored a.s w.0.shape p.result p.ensures.1 a.stripe.now bytes k.new.slots e.new.stripe
           (λ i. (c.slice_known-5-1.given i).fits) (λ i. (c.slice_known-6-1.given i).fits) (e.ensures.long ∙ w.1.0)
-          (k.ensures.so a.stripe.now bytes (c.solve_runs.ensures.all a.stripe.now bytes sy) (not-false _ c.if-not-settle.false)) e.ensures),
+          (k.ensures.so a.stripe.now bytes (c.solve_runs.ensures.all a.stripe.now bytes sy) (c.if-not-settle.false)) e.ensures),
     )

@@ -1,6 +1,5 @@
 -- `fold_refusal` meets its contract: each verdict decides one part of the definition.
 use mathlib.Core.Path.{sym, ◌∙◌}
-use borrow.Author.Tests.{not-true, not-false}
 use Rattle.stripe.proofs.Allowed.{allowed}
 use Rattle.plan.proofs.Refusals.{by_shape, by_stripes, by_new, by_none}
 use Rattle.plan.proofs.fold_refusal.Goals as goal
@@ -14,16 +13,16 @@ stripes_allowed-requires c = allowed _ (sym c.refusal-no.ensures ∙ c.if-no-ne0
 pub returns-then-not-stripes_allowed : goal.returns-then-not-stripes_allowed
 returns-then-not-stripes_allowed c =
     by_stripes _ _ _ (sym c.refusal-no.ensures ∙ c.if-no-ne0.false)
-    (sym c.stripes_allowed.ensures ∙ not-true _ c.if-not-stripes_allowed.true)
+    (sym c.stripes_allowed.ensures ∙ c.if-not-stripes_allowed.true)
 
 pub returns-then-not-new_allowed : goal.returns-then-not-new_allowed
 returns-then-not-new_allowed c =
     by_new _ _ _ (sym c.refusal-no.ensures ∙ c.if-no-ne0.false)
-    (sym c.stripes_allowed.ensures ∙ not-false _ c.if-not-stripes_allowed.false)
-    (sym c.new_allowed.ensures ∙ not-true _ c.if-not-new_allowed.true)
+    (sym c.stripes_allowed.ensures ∙ c.if-not-stripes_allowed.false)
+    (sym c.new_allowed.ensures ∙ c.if-not-new_allowed.true)
 
 pub returns : goal.returns
 returns c =
     by_none _ _ _ (sym c.refusal-no.ensures ∙ c.if-no-ne0.false)
-    (sym c.stripes_allowed.ensures ∙ not-false _ c.if-not-stripes_allowed.false)
-    (sym c.new_allowed.ensures ∙ not-false _ c.if-not-new_allowed.false)
+    (sym c.stripes_allowed.ensures ∙ c.if-not-stripes_allowed.false)
+    (sym c.new_allowed.ensures ∙ c.if-not-new_allowed.false)

@@ -7,9 +7,10 @@ use Rattle.constants.specs.Constants.{most_constants}
 use Rattle.constants.proofs.Made.{few_constants}
 use Rattle.repair.proofs.Refused.{lawful}
 use Rattle.repair.proofs.repair.Goals as goal
+use Rattle.repair.proofs.repair.Goals.{Else-no-ne0}
 
 -- there is room for the weights
-few : (c : goal.Else-no-ne0) → let a = c.args in a.r * a.k ≤ most_constants
+few : (c : Else-no-ne0) → let a = c.args in a.r * a.k ≤ most_constants
 few c =
     let a = c.args in
     let w = lawful a.k a.r a.l a.lost.now (length a.stripe.now) (sym c.refusal-no.ensures ∙ c.if-no-ne0.false) in
@@ -21,7 +22,7 @@ returns-then-no-ne0 c =
     record { refused = λ n. (e, refl); judged = λ z. absurd (c.if-no-ne0.true (e ∙ z)) }
 
 pub overflow_mul-n : goal.overflow_mul-n
-overflow_mul-n c = omega (arith, few c)
+overflow_mul-n c = omega (arith, few (goal.at.overflow_mul-n c).Else-no-ne0)
 
 pub slice_bounds-w-end : goal.slice_bounds-w-end
-slice_bounds-w-end c = omega (arith, few c)
+slice_bounds-w-end c = omega (arith, few (goal.at.slice_bounds-w-end c).Else-no-ne0)

@@ -10,91 +10,92 @@ use Rattle.constants.specs.Constants.{mending_of}
 use Rattle.repair.proofs.Refused.{Lawful, lawful}
 use Rattle.repair.proofs.Restored.{survive_lent, survived, fill_lent, chosen, weighted, kept_is, lost_is, lent, outcome, all_long, front_within}
 use Rattle.repair.proofs.repair_by.Goals as goal
+use Rattle.repair.proofs.repair_by.Goals.{After-fill_computed, After-mending, After-survive, Start}
 
-known : (c : goal.Start) → Lawful c.args.k c.args.r c.args.l c.args.lost.now (length c.args.stripe.now)
+known : (c : Start) → Lawful c.args.k c.args.r c.args.l c.args.lost.now (length c.args.stripe.now)
 known c = lawful _ _ _ _ _ c.requires.0
 
-found : (c : goal.After-survive) → let a = c.args in
+found : (c : After-survive) → let a = c.args in
     c.survive.new.out ≡ survivors 0 (a.k + a.r) a.lost.now
 found c =
     let w = known c.before.before.before.before.before in
     survived _ _ _ _ _ w _ (omega (arith, w.numbers.points_most)) c.survive.ensures
 
-made : (c : goal.After-fill_computed) → let a = c.args in
+made : (c : After-fill_computed) → let a = c.args in
     c.fill_computed.new.out ≡ computed a.k a.r a.lost.now
 made c =
     chosen _ _ _ _ _ (known c.before.before.before.before.before.before.before.before.before) _ (found c.before.before.before.before.before) c.fill_computed.ensures
 
-weights : (c : goal.After-mending) →
+weights : (c : After-mending) →
     let a = c.args in
     c.mending.new.out ≡ mending_of a.k a.r (computed a.k a.r a.lost.now) (sources a.k a.r a.lost.now)
 weights c =
     weighted _ _ _ _ _ (known c.before.before.before.before.before.before.before.before.before.before.before.before.before.before) _ _ _ (found c.before.before.before.before.before.before.before.before.before.before.before.before) (made c.before.before.before.before.before.before.before) c.requires.1 c.mending.ensures
 
 pub overflow_add-m : goal.overflow_add-m
-overflow_add-m c = known c.before.before.before in omega (arith, w.numbers.points_most)
+overflow_add-m c = known (goal.at.overflow_add-m c).Start in omega (arith, w.numbers.points_most)
 
 pub overflow_sub-m : goal.overflow_sub-m
-overflow_sub-m c = known c.before.before.before in omega (arith, w.few)
+overflow_sub-m c = known (goal.at.overflow_sub-m c).Start in omega (arith, w.few)
 
 pub slice_bounds-kept-end : goal.slice_bounds-kept-end
-slice_bounds-kept-end c = known c.before.before.before in omega (arith, w.numbers.points_most)
+slice_bounds-kept-end c = known (goal.at.slice_bounds-kept-end c).Start in omega (arith, w.numbers.points_most)
 
 pub survive-requires : goal.survive-requires
 survive-requires c =
-    let w = known c.before.before.before.before in
+    let w = known (goal.at.survive-requires c).Start in
     survive_lent _ _ _ _ _ w _ (omega (arith, w.numbers.points_most))
 
 pub slice_bounds-fill_computed-count : goal.slice_bounds-fill_computed-count
-slice_bounds-fill_computed-count c = known c.before.before.before.before.before.before in omega (arith, w.few)
+slice_bounds-fill_computed-count c = known (goal.at.slice_bounds-fill_computed-count c).Start in omega (arith, w.few)
 
 pub slice_bounds-fill_computed-start : goal.slice_bounds-fill_computed-start
-slice_bounds-fill_computed-start c = known c.before.before.before.before.before.before in omega (arith, w.few)
+slice_bounds-fill_computed-start c = known (goal.at.slice_bounds-fill_computed-start c).Start in omega (arith, w.few)
 
 pub slice_bounds-fill_computed-end : goal.slice_bounds-fill_computed-end
 slice_bounds-fill_computed-end c =
-    let w = known c.before.before.before.before.before.before in
-    front_within _ _ _ _ (all_long _ _ _ _ _ w) (found c.before.before) (omega arith)
+    let w = known (goal.at.slice_bounds-fill_computed-end c).Start in
+    front_within _ _ _ _ (all_long _ _ _ _ _ w) (found (goal.at.slice_bounds-fill_computed-end c).After-survive) (omega arith)
 
 pub slice_bounds-to-end : goal.slice_bounds-to-end
-slice_bounds-to-end c = known c.before.before.before.before.before.before.before in omega (arith, w.numbers.parity_most)
+slice_bounds-to-end c = known (goal.at.slice_bounds-to-end c).Start in omega (arith, w.numbers.parity_most)
 
 pub fill_computed-requires : goal.fill_computed-requires
 fill_computed-requires c =
-    let w = known c.before.before.before.before.before.before.before.before in
-    fill_lent _ _ _ _ _ w _ _ (omega (arith, w.numbers.parity_most)) (found c.before.before.before.before)
+    let w = known (goal.at.fill_computed-requires c).Start in
+    fill_lent _ _ _ _ _ w _ _ (omega (arith, w.numbers.parity_most)) (found (goal.at.fill_computed-requires c).After-survive)
 
 pub slice_bounds-mending-end : goal.slice_bounds-mending-end
 slice_bounds-mending-end c =
-    let w = known c.before.before.before.before.before.before.before.before.before.before in
-    front_within _ _ _ _ (computed-length _ _ _ w.ascend w.few) (made c.before.before) (omega arith)
+    let w = known (goal.at.slice_bounds-mending-end c).Start in
+    front_within _ _ _ _ (computed-length _ _ _ w.ascend w.few) (made (goal.at.slice_bounds-mending-end c).After-fill_computed) (omega arith)
 
 pub slice_bounds-mending-end-2 : goal.slice_bounds-mending-end-2
 slice_bounds-mending-end-2 c =
-    let w = known c.before.before.before.before.before.before.before.before.before.before.before in
-    front_within _ _ _ _ (all_long _ _ _ _ _ w) (found c.before.before.before.before.before.before.before.before.before) (omega (arith, w.few))
+    let w = known (goal.at.slice_bounds-mending-end-2 c).Start in
+    front_within _ _ _ _ (all_long _ _ _ _ _ w) (found (goal.at.slice_bounds-mending-end-2 c).After-survive) (omega (arith, w.few))
 
 pub slice_bounds-restore-end : goal.slice_bounds-restore-end
 slice_bounds-restore-end c =
-    front_within _ _ _ _ (all_long _ _ _ _ _ (known c.before.before.before.before.before.before.before.before.before.before.before.before.before.before.before.before)) (found c.before.before.before.before.before.before.before.before.before.before.before.before.before.before.before.before) (omega arith)
+    front_within _ _ _ _ (all_long _ _ _ _ _ (known (goal.at.slice_bounds-restore-end c).Start)) (found (goal.at.slice_bounds-restore-end c).After-survive) (omega arith)
 
 pub slice_bounds-restore-end-2 : goal.slice_bounds-restore-end-2
 slice_bounds-restore-end-2 c =
-    let w = known c.before.before.before.before.before.before.before.before.before.before.before.before.before.before.before.before.before in
-    front_within _ _ _ _ (computed-length _ _ _ w.ascend w.few) (made c.before.before.before.before.before.before.before.before.before.before.before.before.before) w.few
+    let w = known (goal.at.slice_bounds-restore-end-2 c).Start in
+    front_within _ _ _ _ (computed-length _ _ _ w.ascend w.few) (made (goal.at.slice_bounds-restore-end-2 c).After-fill_computed) w.few
 
 pub restore-requires : goal.restore-requires
 restore-requires c =
-    let w = known c.before.before.before.before.before.before.before.before.before.before.before.before.before.before.before.before.before.before.before in
-    lent _ _ _ _ _ w _ _ _ (weights c.before.before.before.before.before.before.before.before) (kept_is _ _ _ _ _ w _ (found c.before.before.before.before.before.before.before.before.before.before.before.before.before.before.before.before.before.before.before)) (lost_is _ _ _ _ _ w _ (made c.before.before.before.before.before.before.before.before.before.before.before.before.before.before.before))
+    let w = known (goal.at.restore-requires c).Start in
+    lent _ _ _ _ _ w _ _ _ (weights (goal.at.restore-requires c).After-mending) (kept_is _ _ _ _ _ w _ (found (goal.at.restore-requires c).After-survive)) (lost_is _ _ _ _ _ w _ (made (goal.at.restore-requires c).After-fill_computed))
 
 pub returns : goal.returns
 returns c =
-    let w = known c.before.before.before.before.before.before.before.before.before.before.before.before.before.before.before.before.before.before.before.before.before.before in
+    let w = known (goal.at.returns c).Start in
     let bytes : Bytes c.restore.new.stripe = λ i. (c.slice_known-4-1.given i).fits in
     record {
       refused = λ n. absurd (n c.requires.0);
       judged = λ z.
-          outcome _ _ _ _ _ w _ _ _ (weights c.before.before.before.before.before.before.before.before.before.before.before) (kept_is _ _ _ _ _ w _ (found c.before.before.before.before.before.before.before.before.before.before.before.before.before.before.before.before.before.before.before.before.before.before)) (lost_is _ _ _ _ _ w _ (made c.before.before.before.before.before.before.before.before.before.before.before.before.before.before.before.before.before.before))
+          outcome _ _ _ _ _ w _ _ _ (weights (goal.at.returns c).After-mending) (kept_is _ _ _ _ _ w _ (found (goal.at.returns c).After-survive)) (lost_is _ _ _ _ _ w _ (made (goal.at.returns c).After-fill_computed))
           _ refl _ _ bytes c.restore.ensures;
     }

@@ -5,23 +5,23 @@ use mathlib.Core.Logic.{inl, inr}
 use native.Mathlib.Omega.{arith}
 use lib.ListN.{length}
 use borrow.Author.Rules.{rules}
-use borrow.Author.Tests.{not-true, not-false}
 use Rattle.repair.proofs.Restored.{first_inside, judge_lent, write_lent, part_holds, whole_holds, part_put}
 use Rattle.repair.proofs.restore.Goals as goal
+use Rattle.repair.proofs.restore.Goals.{Start}
 
 -- the rows of the lost columns are among all rows
-inside : (s : goal.Start) → length s.args.to.now * s.args.k ≤ length s.args.w.now
+inside : (s : Start) → length s.args.to.now * s.args.k ≤ length s.args.w.now
 inside s =
     first_inside s.args.w.now s.args.kept.now s.args.to.now s.args.stripe.now s.args.k s.args.l s.requires.0 s.requires.1
 
 pub overflow_mul-first : goal.overflow_mul-first
-overflow_mul-first c = omega (arith, inside c.before.before.before.before)
+overflow_mul-first c = omega (arith, inside (goal.at.overflow_mul-first c).Start)
 
 pub slice_bounds-judge-count : goal.slice_bounds-judge-count
-slice_bounds-judge-count c = inside c.before.before.before.before
+slice_bounds-judge-count c = inside (goal.at.slice_bounds-judge-count c).Start
 
 pub slice_bounds-judge-start : goal.slice_bounds-judge-start
-slice_bounds-judge-start c = omega (arith, inside c.before.before.before.before)
+slice_bounds-judge-start c = omega (arith, inside (goal.at.slice_bounds-judge-start c).Start)
 
 pub judge-requires : goal.judge-requires
 judge-requires c =
@@ -29,7 +29,7 @@ judge-requires c =
 
 pub returns-then-not-judge : goal.returns-then-not-judge
 returns-then-not-judge c =
-    let no = c.judge.ensures.not_so (not-true _ c.if-not-judge.true) in
+    let no = c.judge.ensures.not_so (c.if-not-judge.true) in
     inr (
       refl,
       (
@@ -41,7 +41,7 @@ returns-then-not-judge c =
     )
 
 pub slice_bounds-write-end : goal.slice_bounds-write-end
-slice_bounds-write-end c = omega (arith, inside c.before.before.before.before.before.before.before.before.before.before.before)
+slice_bounds-write-end c = omega (arith, inside (goal.at.slice_bounds-write-end c).Start)
 
 pub write-requires : goal.write-requires
 write-requires c =
@@ -52,7 +52,7 @@ write-requires c =
 
 pub returns : goal.returns
 returns c =
-    let yes = c.judge.ensures.so (not-false _ c.if-not-judge.false) in
+    let yes = c.judge.ensures.so (c.if-not-judge.false) in
     inl (
       refl,
       (

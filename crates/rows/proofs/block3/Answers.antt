@@ -8,19 +8,20 @@ use borrow.Author.Rules.{rules}
 use Rattle.field.specs.Bytes.{Bytes}
 use Rattle.rows.proofs.Horner.{first3, turn3, turn3_two, done3, column_before}
 use Rattle.rows.proofs.block3.Goals as goal
+use Rattle.rows.proofs.block3.Goals.{In-loop-i, Start, Then-i-gt0}
 
-last-column : (c : goal.Start)
+last-column : (c : Start)
     → let d = length c.args.«data».now in (c.args.l ≤ d) × ((d ≤ d) × (d - c.args.l ≡ (c.args.k - 1) * c.args.l))
 last-column c = column_before _ c.args.k c.args.l c.args.k _ c.requires.0 (omega arith) c.requires.1.0 c.requires.0
 
-before : (c : goal.In-loop-i)
+before : (c : In-loop-i)
     → let a = c.args in
     let o = c.loop-i.o in (a.l ≤ o) × ((o ≤ length a.«data».now) × (o - a.l ≡ (c.loop-i.i - 1) * a.l))
 before c =
     let at = c.loop-i in
     column_before _ c.args.k c.args.l at.i at.o c.requires.0 at.invariant.0 (omega (arith, c.loop-i-test.true)) at.invariant.1
 
-before-that : (c : goal.In-loop-i)
+before-that : (c : In-loop-i)
     → let l = c.args.l in
     let o = c.loop-i.o in (l ≤ o - l) × (o - l - l ≡ (c.loop-i.i - 2) * l)
 before-that c =
@@ -30,7 +31,7 @@ before-that c =
     (before c).1.1 in
     (b.0, b.1.1 ∙ ap (λ (x : ℕ). x * l) (omega (arith, c.loop-i-test.true)))
 
-left : (c : goal.Then-i-gt0)
+left : (c : Then-i-gt0)
     → let a = c.args in
     let o = c.loop-i.o in (a.l ≤ o) × ((o ≤ length a.«data».now) × (o - a.l ≡ (c.loop-i.i - 1) * a.l))
 left c =
@@ -38,44 +39,44 @@ left c =
     column_before _ c.args.k c.args.l at.i at.o c.requires.0 at.invariant.0 c.if-i-gt0.true at.invariant.1
 
 pub overflow_sub-o : goal.overflow_sub-o
-overflow_sub-o c = (last-column c.before).0
+overflow_sub-o c = (last-column (goal.at.overflow_sub-o c).Start).0
 
 pub overflow_add-o : goal.overflow_add-o
-overflow_add-o c = omega (arith, (last-column c.before).0)
+overflow_add-o c = omega (arith, (last-column (goal.at.overflow_add-o c).Start).0)
 
 pub last-row0-requires : goal.last-row0-requires
-last-row0-requires c = (omega (arith, (last-column c.before).0), search rules)
+last-row0-requires c = (omega (arith, (last-column (goal.at.last-row0-requires c).Start).0), search rules)
 
 pub loop-i-init : goal.loop-i-init
 loop-i-init c =
     let known : Bytes c.args.«data».now = λ i. (c.shared_slice_known-1.given i).fits in
-    (search rules, (last-column c.before.before).1.1, first3 _ _ _ _ _ _ known (omega arith) (omega arith) c.last-row0.ensures)
+    (search rules, (last-column (goal.at.loop-i-init c).Start).1.1, first3 _ _ _ _ _ _ known (omega arith) (omega arith) c.last-row0.ensures)
 
 pub overflow_sub-o-in-loop-i : goal.overflow_sub-o-in-loop-i
-overflow_sub-o-in-loop-i c = (before c).0
+overflow_sub-o-in-loop-i c = (before (goal.at.overflow_sub-o-in-loop-i c).In-loop-i).0
 
 pub overflow_add-s : goal.overflow_add-s
-overflow_add-s c = omega (arith, (before c).0, (before c).1.0)
+overflow_add-s c = omega (arith, (before (goal.at.overflow_add-s c).In-loop-i).0, (before (goal.at.overflow_add-s c).In-loop-i).1.0)
 
 pub overflow_add-e : goal.overflow_add-e
-overflow_add-e c = omega (arith, (before c).0, (before c).1.0)
+overflow_add-e c = omega (arith, (before (goal.at.overflow_add-e c).In-loop-i).0, (before (goal.at.overflow_add-e c).In-loop-i).1.0)
 
 pub overflow_sub-o-in-loop-i-2 : goal.overflow_sub-o-in-loop-i-2
-overflow_sub-o-in-loop-i-2 c = (before-that c).0
+overflow_sub-o-in-loop-i-2 c = (before-that (goal.at.overflow_sub-o-in-loop-i-2 c).In-loop-i).0
 
 pub overflow_add-t : goal.overflow_add-t
-overflow_add-t c = omega (arith, (before-that c).0, (before c).0, (before c).1.0)
+overflow_add-t c = omega (arith, (before-that (goal.at.overflow_add-t c).In-loop-i).0, (before (goal.at.overflow_add-t c).In-loop-i).0, (before (goal.at.overflow_add-t c).In-loop-i).1.0)
 
 pub overflow_add-u : goal.overflow_add-u
-overflow_add-u c = omega (arith, (before-that c).0, (before c).0, (before c).1.0)
+overflow_add-u c = omega (arith, (before-that (goal.at.overflow_add-u c).In-loop-i).0, (before (goal.at.overflow_add-u c).In-loop-i).0, (before (goal.at.overflow_add-u c).In-loop-i).1.0)
 
 pub slice_bounds-two_more-end : goal.slice_bounds-two_more-end
 slice_bounds-two_more-end c =
-    omega (arith, (before c.before.before.before).0, (before c.before.before.before).1.0)
+    omega (arith, (before (goal.at.slice_bounds-two_more-end c).In-loop-i).0, (before (goal.at.slice_bounds-two_more-end c).In-loop-i).1.0)
 
 pub slice_bounds-two_more-end-in-loop-i : goal.slice_bounds-two_more-end-in-loop-i
 slice_bounds-two_more-end-in-loop-i c =
-    omega (arith, (before-that c.before.before.before.before).0, (before c.before.before.before.before).0, (before c.before.before.before.before).1.0)
+    omega (arith, (before-that (goal.at.slice_bounds-two_more-end-in-loop-i c).In-loop-i).0, (before (goal.at.slice_bounds-two_more-end-in-loop-i c).In-loop-i).0, (before (goal.at.slice_bounds-two_more-end-in-loop-i c).In-loop-i).1.0)
 
 pub loop-i-preserved : goal.loop-i-preserved
 loop-i-preserved c =
@@ -90,17 +91,17 @@ loop-i-preserved c =
     (search rules, b'.1, turn3_two _ _ _ _ _ _ _ _ _ _ _ known b.0 fits at.invariant.2 _ b'.0 twice (c.two_more.ensures.row0_after, (c.two_more.ensures.row1_after, c.two_more.ensures.row2_after)))
 
 pub overflow_sub-s : goal.overflow_sub-s
-overflow_sub-s c = (left c).0
+overflow_sub-s c = (left (goal.at.overflow_sub-s c).Then-i-gt0).0
 
 pub overflow_add-s-then-i-gt0 : goal.overflow_add-s-then-i-gt0
-overflow_add-s-then-i-gt0 c = omega (arith, (left c).0, (left c).1.0)
+overflow_add-s-then-i-gt0 c = omega (arith, (left (goal.at.overflow_add-s-then-i-gt0 c).Then-i-gt0).0, (left (goal.at.overflow_add-s-then-i-gt0 c).Then-i-gt0).1.0)
 
 pub overflow_add-e-then-i-gt0 : goal.overflow_add-e-then-i-gt0
-overflow_add-e-then-i-gt0 c = omega (arith, (left c).0, (left c).1.0)
+overflow_add-e-then-i-gt0 c = omega (arith, (left (goal.at.overflow_add-e-then-i-gt0 c).Then-i-gt0).0, (left (goal.at.overflow_add-e-then-i-gt0 c).Then-i-gt0).1.0)
 
 pub slice_bounds-one_more-end : goal.slice_bounds-one_more-end
 slice_bounds-one_more-end c =
-    omega (arith, (left c.before.before.before).0, (left c.before.before.before).1.0)
+    omega (arith, (left (goal.at.slice_bounds-one_more-end c).Then-i-gt0).0, (left (goal.at.slice_bounds-one_more-end c).Then-i-gt0).1.0)
 
 pub returns-then-i-gt0 : goal.returns-then-i-gt0
 returns-then-i-gt0 c =

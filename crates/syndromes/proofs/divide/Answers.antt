@@ -9,6 +9,7 @@ use Rattle.field.specs.Field.{inverse_of}
 use Rattle.field.specs.Bytes.{Bytes}
 use Rattle.syndromes.proofs.Filling.{divided_0, divide_start, divide_turn, divide_done}
 use Rattle.syndromes.proofs.divide.Goals as goal
+use Rattle.syndromes.proofs.divide.Goals.{In-loop-j}
 
 pub returns-then-x-eq0 : goal.returns-then-x-eq0
 returns-then-x-eq0 c = divided_0 _ _ _ _ c.if-x-eq0.true (λ i. (c.slice_known-1.given i).fits)
@@ -19,7 +20,7 @@ loop-j-init c =
     (search rules, divide_start _ _ _ _ known, known)
 
 -- row j ends within the rows
-fits : (c : goal.In-loop-j)
+fits : (c : In-loop-j)
     → c.loop-j.j * c.args.s.l + c.args.s.l ≤ length c.loop-j.out
 fits c =
     omega (
@@ -31,10 +32,10 @@ fits c =
     )
 
 pub overflow_mul-a : goal.overflow_mul-a
-overflow_mul-a c = omega (arith, fits c)
+overflow_mul-a c = omega (arith, fits (goal.at.overflow_mul-a c).In-loop-j)
 
 pub overflow_add-e : goal.overflow_add-e
-overflow_add-e c = omega (arith, fits c)
+overflow_add-e c = omega (arith, fits (goal.at.overflow_add-e c).In-loop-j)
 
 pub overflow_mul-j : goal.overflow_mul-j
 overflow_mul-j c =
@@ -42,10 +43,10 @@ overflow_mul-j c =
     omega (arith, mul-le-mul_right c.args.x less, c.requires.1)
 
 pub slice_bounds-scale_all-start : goal.slice_bounds-scale_all-start
-slice_bounds-scale_all-start c = omega (arith, fits c.before.before)
+slice_bounds-scale_all-start c = omega (arith, fits (goal.at.slice_bounds-scale_all-start c).In-loop-j)
 
 pub slice_bounds-scale_all-end : goal.slice_bounds-scale_all-end
-slice_bounds-scale_all-end c = omega (arith, fits c.before.before)
+slice_bounds-scale_all-end c = omega (arith, fits (goal.at.slice_bounds-scale_all-end c).In-loop-j)
 
 pub overflow_add-j : goal.overflow_add-j
 overflow_add-j c = omega (arith, c.loop-j-test.true)
@@ -58,7 +59,7 @@ loop-j-preserved c =
     let at = c.loop-j in
     (
       search rules,
-      divide_turn _ _ _ at.j _ _ _ _ at.invariant.1 at.invariant.2 (fits c.before.before.before.before.before.before)
+      divide_turn _ _ _ at.j _ _ _ _ at.invariant.1 at.invariant.2 (fits (goal.at.loop-j-preserved c).In-loop-j)
           (c.inverse-c.ensures ∙ ap inverse_of c.power.ensures)
           c.scale_all.ensures,
       λ i. (c.slice_known-in-loop-j-1.given i).fits,

@@ -1,7 +1,6 @@
 -- The first line, then the lines of the columns; or nothing.
 use mathlib.Core.Path.{sym, ◌∙◌}
 use native.Mathlib.Omega.{arith}
-use borrow.Author.Tests.{not-true, not-false}
 use lib.ListN.{length}
 use Rattle.stripe.proofs.Allowed.{allowed}
 use Rattle.stripe.specs.Shape.{columns}
@@ -14,14 +13,14 @@ pub returns-then-not-can_print : goal.returns-then-not-can_print
 returns-then-not-can_print c = let a = c.args in
     let n = length a.out.now in
     let both = none_put a.out.now (stripe_printed a.s a.lost.now a.stripe.now n)
-    (unprintable a.s a.lost.now a.stripe.now n (sym c.can_print.ensures ∙ not-true _ c.if-not-can_print.true)) in
+    (unprintable a.s a.lost.now a.stripe.now n (sym c.can_print.ensures ∙ c.if-not-can_print.true)) in
     record { value = both.0; out_after = both.1 }
 
 pub put_first-next-requires : goal.put_first-next-requires
 unfolding stripe_text
 put_first-next-requires c =
     let a = c.args in
-    let can = sym c.can_print.ensures ∙ not-false _ c.if-not-can_print.false in
+    let can = sym c.can_print.ensures ∙ c.if-not-can_print.false in
     front_room a.out.now 0 (first_line a.s) (column_lines a.s.l a.lost.now 0 (columns a.s) a.stripe.now)
     (text_fits a.s a.lost.now a.stripe.now (length a.out.now) can)
 
@@ -29,7 +28,7 @@ pub overflow_add-n : goal.overflow_add-n
 overflow_add-n c =
     let a = c.args in
     let can =
-    sym c.can_print.ensures ∙ not-false _ c.if-not-can_print.false in
+    sym c.can_print.ensures ∙ c.if-not-can_print.false in
     let b = allowed a.s (printable_says a.s _ _ can).shaped in
     omega (arith, b.columns_most)
 
@@ -39,7 +38,7 @@ put_lines-requires c =
     let a = c.args in
     let can =
     sym c.can_print.ensures
-    ∙ not-false _ c.if-not-can_print.false in
+    ∙ c.if-not-can_print.false in
     let v = c.put_first-next in (
       omega (arith, (printable_says a.s _ _ can).whole),
       rest_room a.out.now 0 (first_line a.s) (column_lines a.s.l a.lost.now 0 (columns a.s) a.stripe.now)
@@ -51,7 +50,7 @@ unfolding stripe_text
 returns c = let a = c.args in
     let can =
     sym c.can_print.ensures
-    ∙ not-false _ c.if-not-can_print.false in
+    ∙ c.if-not-can_print.false in
     let v = c.put_first-next in
     let n = length a.out.now in
     let both = text_put a.out.now _ (stripe_printed a.s a.lost.now a.stripe.now n) (stripe_text a.s a.lost.now a.stripe.now) _

@@ -4,7 +4,6 @@ use mathlib.Core.Path.{◌≡◌, sym, ap, ◌∙◌}
 use native.Mathlib.Omega.{arith}
 use native.Mathlib.Nat.{mul-le-mul_right}
 use lib.ListN.{length}
-use borrow.Author.Tests.{not-true, not-false}
 use Rattle.stripe.specs.Shape.{columns}
 use Rattle.stripe.proofs.Ascending.{ascending_says}
 use Rattle.record.specs.Layout.{record_of}
@@ -59,7 +58,7 @@ returns-then-not-ascends_below c =
     let one = sym stripe-refusal.ensures ∙ c.if-no-ne0.false in
     let d = described a.s one in
     unwritten_is a.s xs es a.room 6 c.unwritten-then-not-ascends_below.result c.unwritten-then-not-ascends_below.ensures (write_order a.s xs es a.room one
-    c.if-stripe-n.false (sym c.ascends_below.ensures ∙ not-true _ c.if-not-ascends_below.true)) (λ z. omega arith)
+    c.if-stripe-n.false (sym c.ascends_below.ensures ∙ c.if-not-ascends_below.true)) (λ z. omega arith)
 
 pub head_length-requires : goal.head_length-requires
 head_length-requires c = let a = c.args in
@@ -67,7 +66,7 @@ head_length-requires c = let a = c.args in
     let es = a.lost.now in
     let one = sym c.stripe_refusal-no.ensures ∙ c.if-no-ne0.false in
     let d = described a.s one in
-    let ord = sym c.ascends_below.ensures ∙ not-false _ c.if-not-ascends_below.false in
+    let ord = sym c.ascends_below.ensures ∙ c.if-not-ascends_below.false in
     let asc = ascending_says 0 (columns a.s) es ord in
     let few = few_lost (columns a.s) es asc in
     record { s_value = one; lost_len_bound = omega (arith, few, d.0.columns_most) }
@@ -80,7 +79,7 @@ overflow_sub-length c =
     let es = a.lost.now in
     let one = sym stripe-refusal.ensures ∙ c.if-no-ne0.false in
     let d = described a.s one in
-    let ord = sym c.ascends_below.ensures ∙ not-false _ c.if-not-ascends_below.false in
+    let ord = sym c.ascends_below.ensures ∙ c.if-not-ascends_below.false in
     let asc = ascending_says 0 (columns a.s) es ord in
     let few = few_lost (columns a.s) es asc in
     omega (arith, few)
@@ -94,7 +93,7 @@ overflow_mul-length c =
     let es = a.lost.now in
     let one = sym stripe-refusal.ensures ∙ if1.false in
     let d = described a.s one in
-    let ord = sym c.ascends_below.ensures ∙ not-false _ c.if-not-ascends_below.false in
+    let ord = sym c.ascends_below.ensures ∙ c.if-not-ascends_below.false in
     let asc = ascending_says 0 (columns a.s) es ord in
     let few = few_lost (columns a.s) es asc in
     omega (arith, d.1, mul-le-mul_right {m = columns a.s - length es} {n = columns a.s} a.s.l (omega arith))
@@ -108,7 +107,7 @@ overflow_add-length c =
     let es = a.lost.now in
     let one = sym stripe-refusal.ensures ∙ if1.false in
     let d = described a.s one in
-    let ord = sym c.ascends_below.ensures ∙ not-false _ c.if-not-ascends_below.false in
+    let ord = sym c.ascends_below.ensures ∙ c.if-not-ascends_below.false in
     let asc = ascending_says 0 (columns a.s) es ord in
     let few = few_lost (columns a.s) es asc in
     omega (
@@ -130,7 +129,7 @@ returns-then-length-gt65536 c =
     let es = a.lost.now in
     let one = sym stripe-refusal.ensures ∙ if1.false in
     let d = described a.s one in
-    let ord = sym c.ascends_below.ensures ∙ not-false _ c.if-not-ascends_below.false in
+    let ord = sym c.ascends_below.ensures ∙ c.if-not-ascends_below.false in
     let asc = ascending_says 0 (columns a.s) es ord in
     let few = few_lost (columns a.s) es asc in
     let len : head_length.result + (columns a.s - length es) * a.s.l ≡ length (record_of a.s es xs) = ap
@@ -151,7 +150,7 @@ returns-then-room-length c =
     let es = a.lost.now in
     let one = sym stripe-refusal.ensures ∙ if1.false in
     let d = described a.s one in
-    let ord = sym ascends-below.ensures ∙ not-false _ c.if-not-ascends_below.false in
+    let ord = sym ascends-below.ensures ∙ c.if-not-ascends_below.false in
     let asc = ascending_says 0 (columns a.s) es ord in
     let few = few_lost (columns a.s) es asc in
     let len : head_length.result + (columns a.s - length es) * a.s.l ≡ length (record_of a.s es xs) = ap
@@ -172,7 +171,7 @@ returns c =
     let es = a.lost.now in
     let one = sym stripe-refusal.ensures ∙ if1.false in
     let d = described a.s one in
-    let ord = sym c.ascends_below.ensures ∙ not-false _ c.if-not-ascends_below.false in
+    let ord = sym c.ascends_below.ensures ∙ c.if-not-ascends_below.false in
     let asc = ascending_says 0 (columns a.s) es ord in
     let few = few_lost (columns a.s) es asc in
     let len : head_length.result + (columns a.s - length es) * a.s.l ≡ length (record_of a.s es xs) = ap

@@ -14,11 +14,12 @@ use Rattle.constants.proofs.Made.{encoding_made}
 use Rattle.constants.proofs.Applied.{order_small}
 use Rattle.coding.proofs.ByPoints.{Pointed, pointed, order_filled}
 use Rattle.checking.proofs.by_points.first_by.Goals as goal
+use Rattle.checking.proofs.by_points.first_by.Goals.{After-in_order}
 
 numbers : (s : Shape) (d p n : ℕ) → (lent_refusal s d p ≡ 0) × ((by_points s ≡ true) × (n ≡ s.r * s.k)) → Pointed s
 numbers s d p n h = pointed s (lent s d p h.0).shape h.1.0
 
-order : (c : goal.After-in_order) → c.in_order.new.out ≡ tabulate c.args.s.k (λ i. i % 256)
+order : (c : After-in_order) → c.in_order.new.out ≡ tabulate c.args.s.k (λ i. i % 256)
 order c =
     order_filled _ _ _ (omega (arith, (numbers c.args.s _ _ _ c.requires).fits)) c.in_order.ensures
 
@@ -26,7 +27,7 @@ pub slice_bounds-at-end : goal.slice_bounds-at-end
 slice_bounds-at-end c = c.before.before.before.before.before.before.before in omega (arith, (numbers s.args.s _ _ _ s.requires).fits)
 
 pub slice_bounds-all_windows-end : goal.slice_bounds-all_windows-end
-slice_bounds-all_windows-end c = front_fits _ _ _ (tabulate-length _ _) (order c.before.before)
+slice_bounds-all_windows-end c = front_fits _ _ _ (tabulate-length _ _) (order (goal.at.slice_bounds-all_windows-end c).After-in_order)
 
 pub all_windows-requires : goal.all_windows-requires
 all_windows-requires c =
@@ -35,7 +36,7 @@ all_windows-requires c =
       (
         c.requires.1.0,
         (
-          front_read _ _ _ (tabulate-length _ _) (order c.before.before.before.before) ∙ order_small _ (omega (arith, a.fits)),
+          front_read _ _ _ (tabulate-length _ _) (order (goal.at.all_windows-requires c).After-in_order) ∙ order_small _ (omega (arith, a.fits)),
           c.encoding.ensures ∙ encoding_made _ _ _ a.fits a.few c.requires.1.1,
         ),
       ),

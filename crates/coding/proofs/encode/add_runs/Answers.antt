@@ -8,23 +8,24 @@ use borrow.Author.Rules.{rules}
 use Rattle.stripe.specs.Stripe.{run_length}
 use Rattle.coding.proofs.Piggyback.{Marked, marked, InRun, in_run, column_start, column_turn, beside_turn, column_done, added_run}
 use Rattle.coding.proofs.encode.add_runs.Goals as goal
+use Rattle.coding.proofs.encode.add_runs.Goals.{In-loop-j, Start}
 
-known : (c : goal.Start) (m : ℕ) → m ≡ run_length c.args.s
+known : (c : Start) (m : ℕ) → m ≡ run_length c.args.s
     → Marked c.args.s (length c.args.«data».now) (length c.args.out.now) m
 known c m = marked c.args.s _ _ m c.requires.0 c.requires.1.0
 
 -- the function's start, the bytes of a run, and what is known of both within the loop
-abbrev start : goal.In-loop-j → goal.Start
+abbrev start : In-loop-j → Start
 start c = c.before.before.before.before.before
 
-abbrev width : goal.In-loop-j → ℕ
+abbrev width : In-loop-j → ℕ
 width c = c.run_length-m.result
 
-known-here : (c : goal.In-loop-j)
+known-here : (c : In-loop-j)
     → let a = (start c).args in Marked a.s (length a.«data».now) (length a.out.now) (width c)
 known-here c = known (start c) (width c) c.run_length-m.ensures
 
-here : (c : goal.In-loop-j)
+here : (c : In-loop-j)
     → let a = (start c).args in InRun a.s (length a.«data».now) a.i c.loop-j.j (length c.loop-j.out) (width c)
 here c =
     let s = start c in
@@ -33,7 +34,7 @@ here c =
 
 pub loop-j-init : goal.loop-j-init
 loop-j-init c =
-    let f = known c.before.before.before _ c.run_length-m.ensures in (
+    let f = known (goal.at.loop-j-init c).Start _ c.run_length-m.ensures in (
       search rules,
       omega (arith, f.gains),
       f.is,
@@ -42,42 +43,42 @@ loop-j-init c =
     )
 
 pub overflow_mul-a : goal.overflow_mul-a
-overflow_mul-a c = omega (arith, here c)
+overflow_mul-a c = omega (arith, here (goal.at.overflow_mul-a c).In-loop-j)
 
 pub overflow_mul-a-in-loop-j : goal.overflow_mul-a-in-loop-j
-overflow_mul-a-in-loop-j c = omega (arith, here c)
+overflow_mul-a-in-loop-j c = omega (arith, here (goal.at.overflow_mul-a-in-loop-j c).In-loop-j)
 
 pub overflow_add-a : goal.overflow_add-a
-overflow_add-a c = omega (arith, here c)
+overflow_add-a c = omega (arith, here (goal.at.overflow_add-a c).In-loop-j)
 
 pub overflow_add-e : goal.overflow_add-e
-overflow_add-e c = omega (arith, here c)
+overflow_add-e c = omega (arith, here (goal.at.overflow_add-e c).In-loop-j)
 
 pub overflow_mul-i : goal.overflow_mul-i
-overflow_mul-i c = omega (arith, (here c).run, (here c).known.inside)
+overflow_mul-i c = omega (arith, (here (goal.at.overflow_mul-i c).In-loop-j).run, (here (goal.at.overflow_mul-i c).In-loop-j).known.inside)
 
 pub slice_bounds-add_row-end : goal.slice_bounds-add_row-end
-slice_bounds-add_row-end c = omega (arith, here c)
+slice_bounds-add_row-end c = omega (arith, here (goal.at.slice_bounds-add_row-end c).In-loop-j)
 
 pub loop-j-preserved : goal.loop-j-preserved
 loop-j-preserved c =
-    let s = start c.before.before.before.before in
+    let s = start (goal.at.loop-j-preserved c).In-loop-j in
     let a = s.args in
     let at = c.loop-j in
-    let m = width c.before.before.before.before in
-    let f = known-here c.before.before.before.before in
-    let g = added_run a.«data».now a.s.k a.s.l at.j (a.i * m) (a.i * a.s.l + at.j * m) m at.out _ (omega (arith, here c.before.before.before.before)) (here c.before.before.before.before).known
+    let m = width (goal.at.loop-j-preserved c).In-loop-j in
+    let f = known-here (goal.at.loop-j-preserved c).In-loop-j in
+    let g = added_run a.«data».now a.s.k a.s.l at.j (a.i * m) (a.i * a.s.l + at.j * m) m at.out _ (omega (arith, here (goal.at.loop-j-preserved c).In-loop-j)) (here (goal.at.loop-j-preserved c).In-loop-j).known
     c.add_row.ensures in (
       search rules,
       search rules,
       at.invariant.2,
-      column_turn a.s _ a.i m f.rows f.is f.some at.j at.out _ at.invariant.0 (here c.before.before.before.before).run g at.invariant.3,
-      beside_turn a.s _ a.i m f.rows f.is f.some at.j at.out _ at.invariant.0 (here c.before.before.before.before).run g _ at.invariant.4,
+      column_turn a.s _ a.i m f.rows f.is f.some at.j at.out _ at.invariant.0 (here (goal.at.loop-j-preserved c).In-loop-j).run g at.invariant.3,
+      beside_turn a.s _ a.i m f.rows f.is f.some at.j at.out _ at.invariant.0 (here (goal.at.loop-j-preserved c).In-loop-j).run g _ at.invariant.4,
     )
 
 pub returns : goal.returns
 returns c =
     let at = c.loop-j in
-    let f = known c.before.before.before.before.before _ c.run_length-m.ensures in
+    let f = known (goal.at.returns c).Start _ c.run_length-m.ensures in
     let ends = mul-le-mul_right c.run_length-m.result c.loop-j-test.false in
     (column_done c.args.s _ _ _ _ (omega (arith, f.cut, ends)) at.invariant.3, at.invariant.4)

@@ -7,13 +7,14 @@ use borrow.Author.Rules.{rules}
 use Rattle.plan.proofs.Bounds.{fits}
 use Rattle.fold.proofs.WideRows.{row_room, room_long, rows_start, rows_turn, rows_done, exponent_small, row_lies}
 use Rattle.fold.proofs.plain.fill_plain.Goals as goal
+use Rattle.fold.proofs.plain.fill_plain.Goals.{In-loop-j}
 
 -- row j lies within the parity
-room : (c : goal.In-loop-j) → let l = c.args.s.l in
+room : (c : In-loop-j) → let l = c.args.s.l in
     c.loop-j.j * l + l ≤ length c.loop-j.parity
 room c = row_room _ _ _ _ _ _ c.loop-j-test.true _ c.loop-j.invariant.1
 
-length-here : (c : goal.In-loop-j) → let l = c.args.s.l in let a = c.loop-j.j * l in
+length-here : (c : In-loop-j) → let l = c.args.s.l in let a = c.loop-j.j * l in
     length (take (a + l - a) (drop a c.loop-j.parity)) ≡ l
 length-here c = room_long _ _ _ _ _ _ c.loop-j-test.true _ c.loop-j.invariant.1
 
@@ -21,13 +22,13 @@ pub loop-j-init : goal.loop-j-init
 loop-j-init c = c.before.before in (search rules, rows_start _ _ _ z.args.d.now z.args.parity.now z.requires)
 
 pub overflow_mul-a : goal.overflow_mul-a
-overflow_mul-a c = fits _ (omega (arith, room c))
+overflow_mul-a c = fits _ (omega (arith, room (goal.at.overflow_mul-a c).In-loop-j))
 
 pub overflow_add-b : goal.overflow_add-b
-overflow_add-b c = fits _ (omega (arith, room c))
+overflow_add-b c = fits _ (omega (arith, room (goal.at.overflow_add-b c).In-loop-j))
 
 pub slice_bounds-fill_row-end : goal.slice_bounds-fill_row-end
-slice_bounds-fill_row-end c = room c
+slice_bounds-fill_row-end c = room (goal.at.slice_bounds-fill_row-end c).In-loop-j
 
 pub overflow_mul-j : goal.overflow_mul-j
 overflow_mul-j c =
@@ -41,7 +42,7 @@ fill_row-requires c =
     let d = c.args.d.now in
     let parity = c.args.parity.now in
     let h = c.loop-j-test.true in
-    (exponent_small _ _ _ d parity c.requires _ h, row_lies _ _ _ d parity c.requires _ h _ (length-here c.before))
+    (exponent_small _ _ _ d parity c.requires _ h, row_lies _ _ _ d parity c.requires _ h _ (length-here (goal.at.fill_row-requires c).In-loop-j))
 
 pub loop-j-preserved : goal.loop-j-preserved
 loop-j-preserved c =

@@ -6,25 +6,26 @@ use lib.ListN.{length, get_or}
 use borrow.Author.Rules.{rules}
 use Rattle.matrix.proofs.Listing.{added_start, added_turn, added_done}
 use Rattle.matrix.proofs.one.add_listed.Goals as goal
+use Rattle.matrix.proofs.one.add_listed.Goals.{After-wide}
 
 pub loop-j-init : goal.loop-j-init
 loop-j-init c = (search rules, added_start _ _ _ _ _ _ _)
 
 -- what is taken lies in the columns
-inside : (c : goal.After-wide) → let a = c.args in
+inside : (c : After-wide) → let a = c.args in
     a.from + c.wide.result * a.stride + a.w ≤ length a.columns.now
 inside c =
     subst (λ (x : ℕ). c.args.from + x * c.args.stride + c.args.w ≤ length c.args.columns.now) (sym c.wide.ensures)
     (c.requires.1.1 c.loop-j.j c.loop-j-test.true)
 
 pub overflow_mul-wide : goal.overflow_mul-wide
-overflow_mul-wide c = omega (arith, inside c)
+overflow_mul-wide c = omega (arith, inside (goal.at.overflow_mul-wide c).After-wide)
 
 pub overflow_add-from : goal.overflow_add-from
-overflow_add-from c = omega (arith, inside c)
+overflow_add-from c = omega (arith, inside (goal.at.overflow_add-from c).After-wide)
 
 pub block-d-requires : goal.block-d-requires
-block-d-requires c = (inside c, search rules)
+block-d-requires c = (inside (goal.at.block-d-requires c).After-wide, search rules)
 
 pub loop-j-preserved : goal.loop-j-preserved
 loop-j-preserved c =

@@ -2,7 +2,6 @@
 use mathlib.Core.Path.{refl, sym, ◌∙◌}
 use mathlib.Core.Bool.{true≢false}
 use native.Mathlib.Omega.{arith}
-use borrow.Author.Tests.{not-true, not-false}
 use Rattle.stripe.proofs.Allowed.{allowed}
 use Rattle.mending.proofs.Settled.{settled_start, settled_all}
 use Rattle.mending.proofs.settle.settle.Goals as goal
@@ -27,7 +26,7 @@ returns-then-not-settle_row c =
     record {
       long = k.long ∙ t.1.0;
       so = λ xs b z e. absurd (true≢false (sym e));
-      not_so = λ xs b z e. k.not_so xs b (t.1.1 xs b z) (not-true _ c.if-not-settle_row.true);
+      not_so = λ xs b z e. k.not_so xs b (t.1.1 xs b z) (c.if-not-settle_row.true);
     }
 
 pub loop-j-smaller : goal.loop-j-smaller
@@ -38,7 +37,7 @@ loop-j-preserved c =
     let k = c.settle_row.ensures in
     let t = c.loop-j.invariant in (
       omega (arith, c.loop-j-test.true),
-      (k.long ∙ t.1.0, λ xs b z. k.so xs b (t.1.1 xs b z) (not-false _ c.if-not-settle_row.false)),
+      (k.long ∙ t.1.0, λ xs b z. k.so xs b (t.1.1 xs b z) (c.if-not-settle_row.false)),
     )
 
 pub shape_of-slots : goal.shape_of-slots

@@ -1,6 +1,5 @@
 -- `by_doubling` meets its contract: what is left of the factor times the bytes is the product at each turn.
 use Prim.Native.Nat.{◌/◌}
-use borrow.Author.Tests.{not-false}
 use native.Mathlib.Omega.{arith}
 use borrow.Author.Rules.{rules}
 use Rattle.products.proofs.Halving.{halved_start, halved_turn}
@@ -10,7 +9,7 @@ pub returns-then-not-is_power : goal.returns-then-not-is_power
 returns-then-not-is_power c = halved_start _ _
 
 pub loop-k-init : goal.loop-k-init
-loop-k-init c = (c.is_power.ensures (not-false _ c.if-not-is_power.false), (search rules, halved_start _ _))
+loop-k-init c = (c.is_power.ensures (c.if-not-is_power.false), (search rules, halved_start _ _))
 
 pub loop-k-smaller : goal.loop-k-smaller
 loop-k-smaller c = omega (arith, c.loop-k.invariant.0)

@@ -3,15 +3,14 @@ use Prim.Native.Nat.{◌+◌, ◌≤◌}
 use mathlib.Core.Path.{sym, ◌∙◌}
 use native.Mathlib.Omega.{arith}
 use borrow.Author.Rules.{rules}
-use borrow.Author.Tests.{not-true, not-false}
 use Rattle.products.proofs.Mixing.{disjoint_is, part_ready, within_nothing, within_start, within_part, within_done}
 use Rattle.products.proofs.within.mix.Goals as goal
 
 pub returns-then-not-are_disjoint : goal.returns-then-not-are_disjoint
-returns-then-not-are_disjoint c = sym (within_nothing _ _ _ _ _ (sym c.are_disjoint.ensures ∙ not-true _ c.if-not-are_disjoint.true))
+returns-then-not-are_disjoint c = sym (within_nothing _ _ _ _ _ (sym c.are_disjoint.ensures ∙ c.if-not-are_disjoint.true))
 
 pub loop-q-init : goal.loop-q-init
-loop-q-init c = (search rules, (disjoint_is (sym c.are_disjoint.ensures ∙ not-false _ c.if-not-are_disjoint.false), within_start _ _ _ _))
+loop-q-init c = (search rules, (disjoint_is (sym c.are_disjoint.ensures ∙ c.if-not-are_disjoint.false), within_start _ _ _ _))
 
 pub overflow_sub-n : goal.overflow_sub-n
 overflow_sub-n c = c.loop-q.invariant.0

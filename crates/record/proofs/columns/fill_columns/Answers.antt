@@ -9,6 +9,7 @@ use Rattle.record.specs.Layout.{restored}
 use Rattle.record.proofs.Survivors.{copied, Passed, passed_length, restore_turn, restore_done, all_left}
 use Rattle.record.proofs.Survivors.{walk_start, walk_column, walk_survivor, walk_turn}
 use Rattle.record.proofs.columns.fill_columns.Goals as goal
+use Rattle.record.proofs.columns.fill_columns.Goals.{Joined-not-is_lost, Then-not-is_lost}
 
 pub loop-c-init : goal.loop-c-init
 loop-c-init c =
@@ -25,16 +26,16 @@ pub overflow_add-next : goal.overflow_add-next
 overflow_add-next c = omega (arith, walk_column c.loop-c.invariant.1.0 c.loop-c-test.true)
 
 -- a column that is taken has its bytes
-survives : (c : goal.Then-not-is_lost)
+survives : (c : Then-not-is_lost)
     → let v = c.loop-c in
     let a = c.args in
     v.at + a.l ≤ length a.from.now
 survives c =
     walk_survivor c.loop-c.invariant.1.0 c.loop-c-test.true
-    (sym c.is_lost.ensures ∙ not-true _ c.if-not-is_lost.true)
+    (sym c.is_lost.ensures ∙ c.if-not-is_lost.true)
 
 pub overflow_add-end : goal.overflow_add-end
-overflow_add-end c = omega (arith, survives c)
+overflow_add-end c = omega (arith, survives (goal.at.overflow_add-end c).Then-not-is_lost)
 
 pub slice_bounds-copy-end : goal.slice_bounds-copy-end
 slice_bounds-copy-end c =
@@ -42,10 +43,10 @@ slice_bounds-copy-end c =
     omega (arith, walk_column v.invariant.1.0 c.loop-c-test.true, v.invariant.0)
 
 pub slice_bounds-copy-end-then-not-is_lost : goal.slice_bounds-copy-end-then-not-is_lost
-slice_bounds-copy-end-then-not-is_lost c = survives c.before
+slice_bounds-copy-end-then-not-is_lost c = survives (goal.at.slice_bounds-copy-end-then-not-is_lost c).Then-not-is_lost
 
 -- where the two ways of a column meet
-passed : (c : goal.Joined-not-is_lost)
+passed : (c : Joined-not-is_lost)
     → let a = c.args in
     let v = c.loop-c in
     Passed a.l v.c a.lost.now v.to (take a.l (drop v.at a.from.now)) v.at c.if-not-is_lost.at v.stripe c.if-not-is_lost.stripe
@@ -66,7 +67,7 @@ loop-c-preserved c =
     let a = c.args in
     let v = c.loop-c in
     let t = c.loop-c-test.true in
-    let w = passed c in
+    let w = passed (goal.at.loop-c-preserved c).Joined-not-is_lost in
     let zs = take a.l (drop v.at a.from.now) in
     let z = passed_length _ _ _ v.to zs _ _ _ _ w in
     let fits : v.to + a.l ≤ length v.stripe = omega (arith, walk_column v.invariant.1.0 t, v.invariant.0) in

@@ -7,9 +7,10 @@ use lib.ListN.{length, length-set}
 use borrow.Author.Rules.{rules}
 use Rattle.repair.proofs.Chosen.{walk_start, walk_lost, walk_kept, walk_done, walk_as, lost_in_lem, kept_room}
 use Rattle.repair.proofs.choose.survive.Goals as goal
+use Rattle.repair.proofs.choose.survive.Goals.{Else-is_next}
 
 -- a position that survives has room
-room : (c : goal.Else-is_next) → c.loop-c.m < length c.loop-c.out
+room : (c : Else-is_next) → c.loop-c.m < length c.loop-c.out
 room c =
     let at = c.loop-c in
     kept_room _ _ at.c at.v at.m at.out at.invariant.2 c.loop-c-test.true (sym c.is_next.ensures ∙ c.if-is_next.false)
@@ -18,10 +19,10 @@ pub loop-c-init : goal.loop-c-init
 loop-c-init c = (refl, search rules, walk_start _ _ _ refl c.requires.1)
 
 pub bounds-out-m : goal.bounds-out-m
-bounds-out-m c = room c
+bounds-out-m c = room (goal.at.bounds-out-m c).Else-is_next
 
 pub overflow_add-m : goal.overflow_add-m
-overflow_add-m c = omega (arith, room c)
+overflow_add-m c = omega (arith, room (goal.at.overflow_add-m c).Else-is_next)
 
 pub loop-c-preserved : goal.loop-c-preserved
 loop-c-preserved c =

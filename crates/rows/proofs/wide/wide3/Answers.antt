@@ -8,8 +8,9 @@ use Rattle.field.specs.Bytes.{Bytes}
 use Rattle.rows.proofs.Horner.{column_before}
 use Rattle.rows.proofs.Ring.{slot_small, slot_of, start, turn, done3}
 use Rattle.rows.proofs.wide.wide3.Goals as goal
+use Rattle.rows.proofs.wide.wide3.Goals.{In-loop-i}
 
-before : (c : goal.In-loop-i)
+before : (c : In-loop-i)
     → let a = c.args in
     let o = c.loop-i.o in (a.l ≤ o) × ((o ≤ length a.«data».now) × (o - a.l ≡ (c.loop-i.i - 1) * a.l))
 before c =
@@ -20,16 +21,16 @@ pub loop-i-init : goal.loop-i-init
 loop-i-init c = (omega arith, c.requires.0, refl, length-replicate {A = ℕ} 896 0, start _ _ _ _ _ _ (omega arith))
 
 pub overflow_sub-o : goal.overflow_sub-o
-overflow_sub-o c = (before c).0
+overflow_sub-o c = (before (goal.at.overflow_sub-o c).In-loop-i).0
 
 pub after-s-requires : goal.after-s-requires
 after-s-requires c = (omega (arith, c.loop-i.invariant.2), omega arith)
 
 pub overflow_add-o : goal.overflow_add-o
-overflow_add-o c = omega (arith, (before c.before).0, (before c.before).1.0)
+overflow_add-o c = omega (arith, (before (goal.at.overflow_add-o c).In-loop-i).0, (before (goal.at.overflow_add-o c).In-loop-i).1.0)
 
 pub last-d-requires : goal.last-d-requires
-last-d-requires c = (omega (arith, (before c.before).0, (before c.before).1.0), omega arith)
+last-d-requires c = (omega (arith, (before (goal.at.last-d-requires c).In-loop-i).0, (before (goal.at.last-d-requires c).In-loop-i).1.0), omega arith)
 
 pub take-requires : goal.take-requires
 take-requires c = slot_small _ _ _ c.after-s.ensures
@@ -41,7 +42,7 @@ pub loop-i-preserved : goal.loop-i-preserved
 loop-i-preserved c =
     let at = c.loop-i in
     let a = c.args in
-    let b = before c.before.before.before.before.before in
+    let b = before (goal.at.loop-i-preserved c).In-loop-i in
     let more : a.k - (at.i - 1) ≡ suc (a.k - at.i) = omega (arith, at.invariant.0, c.loop-i-test.true) in
     let new = c.after-s.ensures in (
       omega (arith, at.invariant.0),

@@ -1,7 +1,7 @@
 -- `Shape::refusal` meets its contract: each test decides one part of the definition.
 use mathlib.Core.Path.{sym, ◌∙◌}
 use native.Mathlib.Omega.{arith}
-use borrow.Author.Tests.{le-leb, lt-leb, not-true, not-false}
+use borrow.Author.Tests.{le-leb, lt-leb}
 use Rattle.stripe.specs.Shape.{shape_refusal}
 use Rattle.stripe.proofs.Shape.refusal.Goals as goal
 
@@ -39,7 +39,7 @@ returns-then-not-points_allowed c =
       le-leb _ _ c.if-k-gt-MOST_DATA.false,
       le-leb _ _ c.if-r-lt1.false,
       le-leb _ _ c.if-r-gt-MOST_PARITY.false,
-      sym c.points_allowed.ensures ∙ not-true _ c.if-not-points_allowed.true,
+      sym c.points_allowed.ensures ∙ c.if-not-points_allowed.true,
     )
 
 pub returns-then-not-mark_allowed : goal.returns-then-not-mark_allowed
@@ -50,8 +50,8 @@ returns-then-not-mark_allowed c =
       le-leb _ _ c.if-k-gt-MOST_DATA.false,
       le-leb _ _ c.if-r-lt1.false,
       le-leb _ _ c.if-r-gt-MOST_PARITY.false,
-      sym c.points_allowed.ensures ∙ not-false _ c.if-not-points_allowed.false,
-      sym c.mark_allowed.ensures ∙ not-true _ c.if-not-mark_allowed.true,
+      sym c.points_allowed.ensures ∙ c.if-not-points_allowed.false,
+      sym c.mark_allowed.ensures ∙ c.if-not-mark_allowed.true,
     )
 
 pub returns-then-not-length_allowed : goal.returns-then-not-length_allowed
@@ -62,9 +62,9 @@ returns-then-not-length_allowed c =
       le-leb _ _ c.if-k-gt-MOST_DATA.false,
       le-leb _ _ c.if-r-lt1.false,
       le-leb _ _ c.if-r-gt-MOST_PARITY.false,
-      sym c.points_allowed.ensures ∙ not-false _ c.if-not-points_allowed.false,
-      sym c.mark_allowed.ensures ∙ not-false _ c.if-not-mark_allowed.false,
-      sym c.length_allowed.ensures ∙ not-true _ c.if-not-length_allowed.true,
+      sym c.points_allowed.ensures ∙ c.if-not-points_allowed.false,
+      sym c.mark_allowed.ensures ∙ c.if-not-mark_allowed.false,
+      sym c.length_allowed.ensures ∙ c.if-not-length_allowed.true,
     )
 
 pub returns : goal.returns
@@ -75,7 +75,7 @@ returns c =
       le-leb _ _ c.if-k-gt-MOST_DATA.false,
       le-leb _ _ c.if-r-lt1.false,
       le-leb _ _ c.if-r-gt-MOST_PARITY.false,
-      sym c.points_allowed.ensures ∙ not-false _ c.if-not-points_allowed.false,
-      sym c.mark_allowed.ensures ∙ not-false _ c.if-not-mark_allowed.false,
-      sym c.length_allowed.ensures ∙ not-false _ c.if-not-length_allowed.false,
+      sym c.points_allowed.ensures ∙ c.if-not-points_allowed.false,
+      sym c.mark_allowed.ensures ∙ c.if-not-mark_allowed.false,
+      sym c.length_allowed.ensures ∙ c.if-not-length_allowed.false,
     )

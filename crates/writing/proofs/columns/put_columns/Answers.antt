@@ -10,6 +10,7 @@ use Rattle.record.specs.Layout.{survivors}
 use Rattle.record.proofs.Survivors.{copied, Passed, passed_length, all_left, walk_start, walk_column, walk_survivor, walk_turn}
 use Rattle.writing.proofs.Surviving.{survive_turn, survive_done}
 use Rattle.writing.proofs.columns.put_columns.Goals as goal
+use Rattle.writing.proofs.columns.put_columns.Goals.{Joined-not-is_lost, Then-not-is_lost}
 
 pub loop-c-init : goal.loop-c-init
 loop-c-init c =
@@ -26,26 +27,26 @@ pub overflow_add-next : goal.overflow_add-next
 overflow_add-next c = omega (arith, walk_column c.loop-c.invariant.1.0 c.loop-c-test.true)
 
 -- a column that is taken has its room
-survives : (c : goal.Then-not-is_lost)
+survives : (c : Then-not-is_lost)
     → let v = c.loop-c in
     let a = c.args in
     v.at + a.l ≤ length v.out
 survives c =
     let v = c.loop-c in
-    let k = sym c.is_lost.ensures ∙ not-true _ c.if-not-is_lost.true in
+    let k = sym c.is_lost.ensures ∙ c.if-not-is_lost.true in
     omega (arith, walk_survivor v.invariant.1.0 c.loop-c-test.true k, v.invariant.0)
 
 pub overflow_add-end : goal.overflow_add-end
-overflow_add-end c = omega (arith, survives c)
+overflow_add-end c = omega (arith, survives (goal.at.overflow_add-end c).Then-not-is_lost)
 
 pub slice_bounds-copy-end : goal.slice_bounds-copy-end
-slice_bounds-copy-end c = survives c
+slice_bounds-copy-end c = survives (goal.at.slice_bounds-copy-end c).Then-not-is_lost
 
 pub slice_bounds-copy-end-then-not-is_lost : goal.slice_bounds-copy-end-then-not-is_lost
 slice_bounds-copy-end-then-not-is_lost c = walk_column c.loop-c.invariant.1.0 c.loop-c-test.true
 
 -- where the two ways of a column meet
-passed : (c : goal.Joined-not-is_lost)
+passed : (c : Joined-not-is_lost)
     → let a = c.args in
     let v = c.loop-c in
     Passed a.l v.c a.lost.now v.at (take a.l (drop v.from a.stripe.now)) v.at c.if-not-is_lost.at v.out c.if-not-is_lost.out
@@ -66,7 +67,7 @@ loop-c-preserved c =
     let a = c.args in
     let v = c.loop-c in
     let t = c.loop-c-test.true in
-    let w = passed c in
+    let w = passed (goal.at.loop-c-preserved c).Joined-not-is_lost in
     let zs = take a.l (drop v.from a.stripe.now) in
     let z = passed_length _ _ _ v.at zs _ _ _ _ w in
     let law = survive_turn _ a.n v.c v.from v.at _ _ _ v.out _ t (walk_column v.invariant.1.0 t) w in

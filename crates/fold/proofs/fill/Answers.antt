@@ -44,7 +44,7 @@ plain c =
 
 pub last_exponent-e-requires : goal.last_exponent-e-requires
 last_exponent-e-requires c =
-    let able = foldable _ _ _ (plain (goal.at.last_exponent-e-requires c).Else-s-gt-MOST_ROWS).passed in
+    let able = foldable _ _ _ (plain c).passed in
     (able.new_some, (able.new_most, able.shape.data_most))
 
 pub fill_plain-requires : goal.fill_plain-requires

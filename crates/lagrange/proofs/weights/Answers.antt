@@ -28,7 +28,7 @@ pub returns-then-not-fits : goal.returns-then-not-fits
 returns-then-not-fits c = weighed_left _ _ _ (sym c.fits.ensures ∙ c.if-not-fits.true)
 
 pub constants-cs-requires : goal.constants-cs-requires
-constants-cs-requires c = (known (goal.at.constants-cs-requires c).Else-not-fits).rows_most
+constants-cs-requires c = (known c).rows_most
 
 pub loop-at-init : goal.loop-at-init
 loop-at-init c = (search rules, filled_start _ _ _ (known (goal.at.loop-at-init c).Else-not-fits).out)

@@ -18,7 +18,7 @@ unfolding matrix_fits
 returns-then-not-numbers_fit c = simp (sym c.numbers_fit.ensures ∙ c.if-not-numbers_fit.true)
 
 pub overflow_mul-rows : goal.overflow_mul-rows
-overflow_mul-rows c = let h = numbers_fit_lem _ _ _ (known (goal.at.overflow_mul-rows c).Else-not-numbers_fit) in omega (arith, mul-le-mul h.rows_most h.columns_most)
+overflow_mul-rows c = let h = numbers_fit_lem _ _ _ (known c) in omega (arith, mul-le-mul h.rows_most h.columns_most)
 
 pub returns-then-a-rows : goal.returns-then-a-rows
 unfolding matrix_fits

@@ -40,7 +40,7 @@ pub overflow_mul-m : goal.overflow_mul-m
 overflow_mul-m c = omega (arith, few (goal.at.overflow_mul-m c).After-shorter-n)
 
 pub slice_bounds-made-end : goal.slice_bounds-made-end
-slice_bounds-made-end c = omega (arith, few (goal.at.slice_bounds-made-end c).After-shorter-n, c.loop-p.invariant.1)
+slice_bounds-made-end c = omega (arith, few c, c.loop-p.invariant.1)
 
 pub window-b-requires : goal.window-b-requires
 window-b-requires c =

@@ -22,13 +22,13 @@ pub loop-j-init : goal.loop-j-init
 loop-j-init c = (search rules, rows_start _ _ _ c.args.d.now c.args.parity.now c.requires)
 
 pub overflow_mul-a : goal.overflow_mul-a
-overflow_mul-a c = fits _ (omega (arith, room (goal.at.overflow_mul-a c).In-loop-j))
+overflow_mul-a c = fits _ (omega (arith, room c))
 
 pub overflow_add-b : goal.overflow_add-b
-overflow_add-b c = fits _ (omega (arith, room (goal.at.overflow_add-b c).In-loop-j))
+overflow_add-b c = fits _ (omega (arith, room c))
 
 pub slice_bounds-fill_row-end : goal.slice_bounds-fill_row-end
-slice_bounds-fill_row-end c = room (goal.at.slice_bounds-fill_row-end c).In-loop-j
+slice_bounds-fill_row-end c = room c
 
 pub overflow_mul-j : goal.overflow_mul-j
 overflow_mul-j c =

@@ -1,7 +1,7 @@
 -- A record's positions: which are among them, and which of them are data columns.
 use Prim.Native.Nat.{ℕ, zero, suc, ◌≤◌, ◌<◌}
 use mathlib.Core.Path.{◌≡◌, refl, sym, ap, ◌∙◌}
-use mathlib.Core.Bool.{Bool, true, false, cond, or_true}
+use mathlib.Core.Bool.{Bool, true, false, cond, or-true}
 use mathlib.Core.List.{List, [], ◌∷◌}
 use native.Mathlib.Omega.{arith}
 use native.Mathlib.Nat.{le_of_suc-le-suc}
@@ -17,7 +17,7 @@ unfolding among
 found [] n c i h l e = absurd (omega arith)
 found (x ∷ xs) zero c i h l e = absurd (omega arith)
 found (x ∷ xs) (suc n) c zero h l e = simp (eq-eqb c x (sym e))
-found (x ∷ xs) (suc n) c (suc i) h l e = rw (← found xs n c i (omega arith) (omega arith) e) (sym (or_true (eqb c x)))
+found (x ∷ xs) (suc n) c (suc i) h l e = rw (← found xs n c i (omega arith) (omega arith) e) (sym (or-true (eqb c x)))
 
 pub none : (xs : List ℕ) (n c : ℕ) → ((j : ℕ) → j < n → get_or xs j 0 ≡ c → ⊥) → n ≤ length xs → false ≡ among c (take n xs)
 unfolding among

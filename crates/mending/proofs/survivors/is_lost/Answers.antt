@@ -16,7 +16,7 @@ use Rattle.mending.proofs.survivors.is_lost.Goals as goal
 
 -- what owning a `Few` tells of the length of its array
 room_at : (l : Few) → Is T.the_row l (LL.val T.the_type T'.the_laws l ∷ []) → length l.at ≡ most_rows
-room_at l p = sym (length-map l.at (λ v. v)) ∙ (LL.owed T.the_type T'.the_laws l _ p).0.1.0.1
+room_at l p = (LL.owed T.the_type T'.the_laws l _ p).0.1.0.1
 
 pub returns-then-at-v : goal.returns-then-at-v
 returns-then-at-v c =

@@ -11,7 +11,7 @@
 # Needs the Rattle kit (rt on the PATH) and a C compiler for the shared library. PREFIX, BINDIR, LIBDIR, INCLUDEDIR, MANDIR and DOCDIR
 # say where it will be used, DESTDIR where that is staged. The programs `mend` and `mends` are installed as balogwisu-mend and
 # balogwisu-mends, since the short names are too general for a system. The kit links programs for x86-64 alone, so on Arm they are left
-# out; there tools/load runs what `rt check mend` builds.
+# out; there tools/load runs what tools/program builds.
 VERSION := $(shell sed -n 's/^.define SHELF_VERSION "\(.*\)"$$/\1/p' c/shelf.h)
 SONAME = libshelf.so.0
 PREFIX = /usr/local
@@ -40,14 +40,14 @@ all: $(ARCHIVE) $(SHARED) $(PROGRAMS:%=target/bin/%)
 check:
 	tools/test
 
-target/staticlib/libshelf.a: $(SOURCES)
-	rt staticlib shelf
+target/staticlib/libshelf.a: $(SOURCES) tools/archive tools/kit.py
+	tools/archive
 	touch $@
 
-# where the archive that rt writes, of plain x86-64, is not the one: the folder is the option
+# where the archive that tools/archive writes, of plain x86-64, is not the one: the folder is the option
 target/native/libshelf.a target/aarch64/libshelf.a: target/%/libshelf.a: $(SOURCES) tools/native-object
 	mkdir -p $(@D)
-	tools/native-object --$* shelf $(@D)/shelf.o
+	tools/native-object --$* shelf_c $(@D)/shelf.o
 	rm -f $@
 	ar rcs $@ $(@D)/shelf.o
 	echo '$(MARCH)' >$(@D)/march
@@ -61,8 +61,9 @@ $(SHARED): $(ARCHIVE)
 	$(CC) -shared -Wl,-soname,$(SONAME) -Wl,--whole-archive $(ARCHIVE) -Wl,--no-whole-archive -o $@
 
 target/bin/%: $(SOURCES)
-	rt check $*
-	touch $@
+	tools/program $*
+	mkdir -p $(@D)
+	cp crates/$*/out/$* $@
 
 # the pages of section 1 with the version in them, and the header as a page of section 3
 $(PAGES)/done: docs/mend.1 docs/mends.1 c/shelf.h tools/header-page
@@ -99,7 +100,7 @@ uninstall:
 	rm -rf '$(DESTDIR)$(DOCDIR)'
 
 clean:
-	rm -rf target
+	rm -rf target crates/*/out
 
 .PHONY: all check install uninstall clean always
-.NOTPARALLEL: # rt proves crates side by side itself, and no two of it may work in one folder
+.NOTPARALLEL: # rt shares out a check itself, and one of it waits for another in the same crate

@@ -1,4 +1,4 @@
-// The check of a stripe, for C: where its parity first disagrees.
+// The check of a stripe: where its parity first disagrees.
 ghost use Rattle.std.specs.Prelude.{◌≡◌};
 ghost use Rattle.checking.specs.Check.{number_of, first_wrong};
 ghost use Rattle.shelf.specs.Shelf.{shape_of};
@@ -8,8 +8,7 @@ use crate::shape_of;
 use checking::{Wrong, first_wrong};
 
 // 0 for a codeword; 8, and the first parity column and place that disagree are written; or 1, 2 or 5. Else nothing is written.
-#[unsafe(no_mangle)]
-pub extern "C" fn shelf_check(
+pub fn shelf_check(
     k: u64,
     r: u64,
     t: u64,

@@ -1,5 +1,6 @@
-// The calls of the shelf daemon, for C: numbers and byte slices come in, 0 or the number of a refusal goes back. `c/shelf.h`
-// documents them. Each is thin over a proved function of a crate below, and refuses bad numbers and lengths itself.
+// The calls of the shelf daemon: numbers and byte slices come in, 0 or the number of a refusal goes back. Crate `shelf_c` exports
+// them to C, and `c/shelf.h` documents them. Each is thin over a proved function of a crate below, and refuses bad numbers and
+// lengths itself.
 #![tactic(auto)]
 
 pub mod check;
@@ -28,15 +29,7 @@ pub(crate) fn shape_of(k: u64, r: u64, t: u64, l: u64) -> Shape
 }
 
 // 0, and the parity of the data is filled in; or 1, 2 or 5, and nothing is written.
-#[unsafe(no_mangle)]
-pub extern "C" fn shelf_encode(
-    k: u64,
-    r: u64,
-    t: u64,
-    l: u64,
-    data: &[u8],
-    parity: &mut [u8],
-) -> u32
+pub fn shelf_encode(k: u64, r: u64, t: u64, l: u64, data: &[u8], parity: &mut [u8]) -> u32
     ensures value { result ≡ encode_refusal (shape_of k r t l) (length «data».now) (length parity.old) }
     ensures parity_after { parity.new ≡ encoded (shape_of k r t l) «data».now parity.old }
 {
@@ -45,8 +38,7 @@ pub extern "C" fn shelf_encode(
 }
 
 // 0, and the lost columns are mended; or 1, 2, 5, 6, 7 or 8, and nothing is written.
-#[unsafe(no_mangle)]
-pub extern "C" fn shelf_mend(k: u64, r: u64, t: u64, l: u64, stripe: &mut [u8], lost: &[u8]) -> u32
+pub fn shelf_mend(k: u64, r: u64, t: u64, l: u64, stripe: &mut [u8], lost: &[u8]) -> u32
     ensures { Mended (shape_of k r t l) lost.now stripe.old result stripe.new }
 {
     let shape = shape_of(k, r, t, l);
@@ -54,8 +46,7 @@ pub extern "C" fn shelf_mend(k: u64, r: u64, t: u64, l: u64, stripe: &mut [u8], 
 }
 
 // 0, and the parity of the wide stripe is filled in from the bytes of the plan; or 1 to 5, and nothing is written.
-#[unsafe(no_mangle)]
-pub extern "C" fn shelf_fold(
+pub fn shelf_fold(
     k: u64,
     r: u64,
     t: u64,
@@ -73,8 +64,7 @@ pub extern "C" fn shelf_fold(
 }
 
 // 0 where these stripes can be folded; or 1 to 4.
-#[unsafe(no_mangle)]
-pub extern "C" fn shelf_plan_refusal(k: u64, r: u64, t: u64, l: u64, stripes: u64, f: u64) -> u32
+pub fn shelf_plan_refusal(k: u64, r: u64, t: u64, l: u64, stripes: u64, f: u64) -> u32
     ensures { result ≡ fold_refusal (shape_of k r t l) stripes f }
 {
     let s = shape_of(k, r, t, l);
@@ -82,15 +72,7 @@ pub extern "C" fn shelf_plan_refusal(k: u64, r: u64, t: u64, l: u64, stripes: u6
 }
 
 // How many columns the plan reads; 0 where the fold is refused.
-#[unsafe(no_mangle)]
-pub extern "C" fn shelf_plan_columns_read(
-    k: u64,
-    r: u64,
-    t: u64,
-    l: u64,
-    stripes: u64,
-    f: u64,
-) -> Columns
+pub fn shelf_plan_columns_read(k: u64, r: u64, t: u64, l: u64, stripes: u64, f: u64) -> Columns
     ensures { result.0 ≡ columns_read (shape_of k r t l) stripes f }
 {
     let s = shape_of(k, r, t, l);
@@ -98,15 +80,7 @@ pub extern "C" fn shelf_plan_columns_read(
 }
 
 // How many bytes the plan reads; 0 where the fold is refused.
-#[unsafe(no_mangle)]
-pub extern "C" fn shelf_plan_bytes_read(
-    k: u64,
-    r: u64,
-    t: u64,
-    l: u64,
-    stripes: u64,
-    f: u64,
-) -> Bytes
+pub fn shelf_plan_bytes_read(k: u64, r: u64, t: u64, l: u64, stripes: u64, f: u64) -> Bytes
     ensures { result.0 ≡ bytes_read (shape_of k r t l) stripes f }
 {
     let s = shape_of(k, r, t, l);
@@ -114,15 +88,7 @@ pub extern "C" fn shelf_plan_bytes_read(
 }
 
 // How many columns the fold writes; 0 where it is refused.
-#[unsafe(no_mangle)]
-pub extern "C" fn shelf_plan_columns_written(
-    k: u64,
-    r: u64,
-    t: u64,
-    l: u64,
-    stripes: u64,
-    f: u64,
-) -> Columns
+pub fn shelf_plan_columns_written(k: u64, r: u64, t: u64, l: u64, stripes: u64, f: u64) -> Columns
     ensures { result.0 ≡ columns_written (shape_of k r t l) stripes f }
 {
     let s = shape_of(k, r, t, l);
@@ -130,15 +96,7 @@ pub extern "C" fn shelf_plan_columns_written(
 }
 
 // How many columns the fold reads and writes; 0 where it is refused.
-#[unsafe(no_mangle)]
-pub extern "C" fn shelf_plan_columns_sum(
-    k: u64,
-    r: u64,
-    t: u64,
-    l: u64,
-    stripes: u64,
-    f: u64,
-) -> Columns
+pub fn shelf_plan_columns_sum(k: u64, r: u64, t: u64, l: u64, stripes: u64, f: u64) -> Columns
     ensures { result.0 ≡ access_cost (shape_of k r t l) stripes f }
 {
     let s = shape_of(k, r, t, l);
@@ -146,15 +104,7 @@ pub extern "C" fn shelf_plan_columns_sum(
 }
 
 // How many bytes the fold writes; 0 where it is refused.
-#[unsafe(no_mangle)]
-pub extern "C" fn shelf_plan_bytes_written(
-    k: u64,
-    r: u64,
-    t: u64,
-    l: u64,
-    stripes: u64,
-    f: u64,
-) -> Bytes
+pub fn shelf_plan_bytes_written(k: u64, r: u64, t: u64, l: u64, stripes: u64, f: u64) -> Bytes
     ensures { result.0 ≡ bytes_written (shape_of k r t l) stripes f }
 {
     let s = shape_of(k, r, t, l);
@@ -162,15 +112,7 @@ pub extern "C" fn shelf_plan_bytes_written(
 }
 
 // How many bytes the fold reads and writes; 0 where it is refused.
-#[unsafe(no_mangle)]
-pub extern "C" fn shelf_plan_bytes_sum(
-    k: u64,
-    r: u64,
-    t: u64,
-    l: u64,
-    stripes: u64,
-    f: u64,
-) -> Bytes
+pub fn shelf_plan_bytes_sum(k: u64, r: u64, t: u64, l: u64, stripes: u64, f: u64) -> Bytes
     ensures { result.0 ≡ conversion_bandwidth (shape_of k r t l) stripes f }
 {
     let s = shape_of(k, r, t, l);
@@ -209,8 +151,7 @@ fn plan_span(k: u64, r: u64, t: u64, l: u64, stripes: u64, f: u64, i: usize) -> 
 }
 
 // 0, and the spans of the plan stand in order at the front of the list, whose rest stays; or 1 to 5, and nothing is written.
-#[unsafe(no_mangle)]
-pub extern "C" fn shelf_plan_spans(
+pub fn shelf_plan_spans(
     k: u64,
     r: u64,
     t: u64,

@@ -1,4 +1,4 @@
-// Records, for C: one read into a stripe and a list, and one written.
+// Records: one read into a stripe and a list, and one written.
 ghost use Rattle.std.specs.Prelude.{◌≡◌, length as length_of};
 ghost use Rattle.writing.specs.Writing.{out_written};
 ghost use Rattle.shelf.specs.Shelf.{shape_of};
@@ -10,8 +10,7 @@ use writing::write_record;
 
 // 0, and the surviving columns, the lost positions and the five numbers k, r, t, l and how many are lost are filled in; or a
 // refusal, and nothing is written.
-#[unsafe(no_mangle)]
-pub extern "C" fn shelf_read_record(
+pub fn shelf_read_record(
     record: &[u8],
     stripe: &mut [u8],
     lost: &mut [u16],
@@ -49,8 +48,7 @@ fn put_numbers(got: Got, numbers: &mut [u64])
 }
 
 // 0, and the record stands at the front of the output, whose rest stays, and its length is written; or a refusal, and nothing is.
-#[unsafe(no_mangle)]
-pub extern "C" fn shelf_write_record(
+pub fn shelf_write_record(
     k: u64,
     r: u64,
     t: u64,

@@ -10,7 +10,7 @@ use Rattle.answer.proofs.Worked.{answer_columns, answer_stripe, answer_list, tex
 use Rattle.answer.proofs.answer.Goals as goal
 
 pub returns-then-out-lt140000 : goal.returns-then-out-lt140000
-returns-then-out-lt140000 c = c.args in printed_cramped a.bytes.now a.out.now c.if-out-lt140000.true
+returns-then-out-lt140000 c = let a = c.args in printed_cramped a.bytes.now a.out.now c.if-out-lt140000.true
 
 pub returns-then-a-ne0 : goal.returns-then-a-ne0
 returns-then-a-ne0 c =

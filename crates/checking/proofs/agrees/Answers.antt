@@ -24,17 +24,17 @@ first_by_points-requires c =
     (c.requires, many_by_points c.args.s c.if-s-gt-MOST_ROWS.true (allowed c.args.s (lent c.args.s _ _ c.requires).shape).parity_most)
 
 pub returns-then-s-gt-MOST_ROWS : goal.returns-then-s-gt-MOST_ROWS
-returns-then-s-gt-MOST_ROWS c = c.before.before.before.before.before in past s.args.s _ _ _ s.requires c.first_by_points.ensures
+returns-then-s-gt-MOST_ROWS c = past c.args.s _ _ _ c.requires c.first_by_points.ensures
 
 pub in_small-requires : goal.in_small-requires
 in_small-requires c =
     (c.requires, (few_by_rows c.args.s c.if-s-gt-MOST_ROWS.false, c.if-n-le-SMALL.true))
 
 pub returns-then-n-le-SMALL : goal.returns-then-n-le-SMALL
-returns-then-n-le-SMALL c = c.before.before.before.before.before.before in past s.args.s _ _ _ s.requires c.in_small.ensures
+returns-then-n-le-SMALL c = past c.args.s _ _ _ c.requires c.in_small.ensures
 
 pub first_by_rows-requires : goal.first_by_rows-requires
-first_by_rows-requires c = c.before.before.before.before.before in (s.requires, few_by_rows s.args.s c.if-s-gt-MOST_ROWS.false)
+first_by_rows-requires c = (c.requires, few_by_rows c.args.s c.if-s-gt-MOST_ROWS.false)
 
 pub returns : goal.returns
-returns c = c.before.before.before.before.before.before in past s.args.s _ _ _ s.requires c.first_by_rows.ensures
+returns c = past c.args.s _ _ _ c.requires c.first_by_rows.ensures

@@ -8,4 +8,4 @@ first_by_points-requires c =
     (c.requires, many_by_points c.args.s c.if-s-gt-MOST_ROWS.true (allowed c.args.s (lent c.args.s _ _ c.requires).shape).parity_most)
 
 pub first_by_rows-requires : goal.first_by_rows-requires
-first_by_rows-requires c = c.before.before.before.before in (s.requires, few_by_rows s.args.s c.if-s-gt-MOST_ROWS.false)
+first_by_rows-requires c = (c.requires, few_by_rows c.args.s c.if-s-gt-MOST_ROWS.false)

@@ -6,16 +6,16 @@ use Rattle.checking.proofs.Where.{where_past, where_within}
 use Rattle.checking.proofs.where_is.Goals as goal
 
 pub overflow_mul-s : goal.overflow_mul-s
-overflow_mul-s c = c.before in omega (arith, (allowed s.args.s s.requires).parity-length)
+overflow_mul-s c = omega (arith, (allowed c.args.s c.requires).parity-length)
 
 pub returns-then-s-l : goal.returns-then-s-l
 returns-then-s-l c = sym (where_past _ _ c.if-s-l.true)
 
 pub nonzero_div-i : goal.nonzero_div-i
-nonzero_div-i c = c.before.before in (allowed s.args.s s.requires).length_some
+nonzero_div-i c = (allowed c.args.s c.requires).length_some
 
 pub nonzero_rem-p : goal.nonzero_rem-p
-nonzero_rem-p c = c.before.before in (allowed s.args.s s.requires).length_some
+nonzero_rem-p c = (allowed c.args.s c.requires).length_some
 
 pub returns : goal.returns
 returns c = sym (where_within _ _ (omega (arith, c.if-s-l.false)))

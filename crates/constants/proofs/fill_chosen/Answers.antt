@@ -27,7 +27,7 @@ pub loop-v-preserved : goal.loop-v-preserved
 loop-v-preserved c =
     let at = c.loop-v in
     let a = c.args in
-    let turn = set_turn at.out (λ q. get_or a.points.now (get_or a.at.now q 0) 0) at.v _ (search rules) (chosen (goal.at.loop-v-preserved c).Joined-c-points) at.invariant.2 in
+    let turn = set_turn at.out (λ q. get_or a.points.now (get_or a.at.now q 0) 0) at.v _ (search rules) (chosen c) at.invariant.2 in
     (search rules, search rules, turn)
 
 pub returns : goal.returns

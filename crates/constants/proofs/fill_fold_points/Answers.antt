@@ -33,13 +33,13 @@ pub loop-i-init : goal.loop-i-init
 loop-i-init c = (search rules, fold_start _ _ _ _ c.requires.0)
 
 pub overflow_mul-a : goal.overflow_mul-a
-overflow_mul-a c = omega (arith, few (goal.at.overflow_mul-a c).In-loop-i)
+overflow_mul-a c = omega (arith, few c)
 
 pub overflow_add-e : goal.overflow_add-e
-overflow_add-e c = omega (arith, few (goal.at.overflow_add-e c).In-loop-i)
+overflow_add-e c = omega (arith, few c)
 
 pub slice_bounds-descending-end : goal.slice_bounds-descending-end
-slice_bounds-descending-end c = omega (arith, inside (goal.at.slice_bounds-descending-end c).In-loop-i)
+slice_bounds-descending-end c = omega (arith, inside c)
 
 pub overflow_mul-i : goal.overflow_mul-i
 overflow_mul-i c = omega (arith, exponent (goal.at.overflow_mul-i c).In-loop-i)

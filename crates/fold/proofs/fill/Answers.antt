@@ -39,12 +39,12 @@ returns-then-s-gt-MOST_ROWS c =
 plain : (c : Else-s-gt-MOST_ROWS) → let a = c.args in
     ReadsPlain a.s a.stripes a.f (length a.read.now) (length a.parity.now)
 plain c =
-    let is = sym c.kind_of-kind.ensures ∙ c.enum_told-1.given.1 in
+    let is = sym c.in-A.ensures in
     record { passed = c.requires.0; rows = few_by_rows _ c.if-s-gt-MOST_ROWS.false; kind = is; read_long = c.requires.1.0; parity_long = c.requires.1.1 }
 
 pub last_exponent-e-requires : goal.last_exponent-e-requires
 last_exponent-e-requires c =
-    let able = foldable _ _ _ (plain (goal.at.last_exponent-e-requires c).Else-s-gt-MOST_ROWS).passed in
+    let able = foldable _ _ _ (plain c).passed in
     (able.new_some, (able.new_most, able.shape.data_most))
 
 pub fill_plain-requires : goal.fill_plain-requires
@@ -71,12 +71,12 @@ fill_parity-requires c =
 
 pub fill_parity-requires-in-B : goal.fill_parity-requires-in-B
 fill_parity-requires-in-B c =
-    let is = sym c.kind_of-kind.ensures ∙ c.enum_told-in-B-1.given.1 in
+    let is = sym c.in-B.ensures in
     (reads_parity _ _ _ c.requires.0 (marked_by_rows _ _ _ c.requires.0 is) (λ e. b_not_c (sym is ∙ e)), c.requires)
 
 pub returns-else-s-gt-MOST_ROWS-2 : goal.returns-else-s-gt-MOST_ROWS-2
 returns-else-s-gt-MOST_ROWS-2 c =
-    let is = sym c.kind_of-kind.ensures ∙ c.enum_told-in-C-1.given.1 in
+    let is = sym c.in-C.ensures in
     c.encode_by_rows.ensures
     ∙ ap (λ (t : Shape). encoded_by_rows t c.args.read.now c.args.parity.now) (c.wide_shape.ensures ∙ a_shape _ _ _ c.requires.0)
     ∙ encoded_fold _ _ _ c.requires.0 _ is c.requires.1.0 (few_by_rows _ c.if-s-gt-MOST_ROWS-2.false) _ c.requires.1.1

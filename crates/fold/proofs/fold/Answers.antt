@@ -4,7 +4,7 @@ use Rattle.fold.proofs.Verdict.{verdict_passed, filled, unfilled}
 use Rattle.fold.proofs.fold.Goals as goal
 
 pub returns-then-no-ne0 : goal.returns-then-no-ne0
-returns-then-no-ne0 c = c.fold_verdict-no.ensures in (v, unfilled _ _ _ _ _ (λ e. c.if-no-ne0.true (v ∙ e)))
+returns-then-no-ne0 c = let v = c.fold_verdict-no.ensures in (v, unfilled _ _ _ _ _ (λ e. c.if-no-ne0.true (v ∙ e)))
 
 pub fill-requires : goal.fill-requires
 fill-requires c = verdict_passed _ _ _ _ _ (sym c.fold_verdict-no.ensures ∙ c.if-no-ne0.false)

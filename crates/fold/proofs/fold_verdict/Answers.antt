@@ -10,7 +10,7 @@ use Rattle.fold.proofs.Verdict.{by_refusal, by_read, by_filled, by_nothing}
 use Rattle.fold.proofs.fold_verdict.Goals as goal
 
 pub returns-then-no-ne0 : goal.returns-then-no-ne0
-returns-then-no-ne0 c = c.fold_refusal-no.ensures in r ∙ by_refusal _ _ _ _ _ (λ e. c.if-no-ne0.true (r ∙ e))
+returns-then-no-ne0 c = let r = c.fold_refusal-no.ensures in r ∙ by_refusal _ _ _ _ _ (λ e. c.if-no-ne0.true (r ∙ e))
 
 pub returns-then-not-is : goal.returns-then-not-is
 returns-then-not-is c =

@@ -19,16 +19,16 @@ pub loop-v-init : goal.loop-v-init
 loop-v-init c = (search rules, laid_start _ _ _ _ _)
 
 pub overflow_mul-o : goal.overflow_mul-o
-overflow_mul-o c = omega (arith, inside (goal.at.overflow_mul-o c).In-loop-v)
+overflow_mul-o c = omega (arith, inside c)
 
 pub overflow_add-o : goal.overflow_add-o
-overflow_add-o c = omega (arith, inside (goal.at.overflow_add-o c).In-loop-v)
+overflow_add-o c = omega (arith, inside c)
 
 pub overflow_add-e : goal.overflow_add-e
-overflow_add-e c = omega (arith, inside (goal.at.overflow_add-e c).In-loop-v)
+overflow_add-e c = omega (arith, inside c)
 
 pub slice_bounds-copy-end : goal.slice_bounds-copy-end
-slice_bounds-copy-end c = omega (arith, inside (goal.at.slice_bounds-copy-end c).In-loop-v)
+slice_bounds-copy-end c = omega (arith, inside c)
 
 pub loop-v-preserved : goal.loop-v-preserved
 loop-v-preserved c =

@@ -13,7 +13,7 @@ use Rattle.lagrange.proofs.weights.Goals.{After-shorter-w, Else-not-fits}
 
 fits : (c : Else-not-fits) → let a = c.args in
     weights_fit (length a.bs.now) (length a.ys.now) (length a.out.now) ≡ true
-fits c = sym c.fits2.ensures ∙ c.if-not-fits.false
+fits c = sym c.fits.ensures ∙ c.if-not-fits.false
 
 known : (c : Else-not-fits) → let a = c.args in
     Fit (length a.bs.now) (length a.ys.now) (length a.out.now)
@@ -25,10 +25,10 @@ taken : (c : After-shorter-w) → let a = c.args in
 taken c = omega (arith, c.shorter-w.ensures.1.0, c.loop-at-test.true)
 
 pub returns-then-not-fits : goal.returns-then-not-fits
-returns-then-not-fits c = weighed_left _ _ _ (sym c.fits2.ensures ∙ c.if-not-fits.true)
+returns-then-not-fits c = weighed_left _ _ _ (sym c.fits.ensures ∙ c.if-not-fits.true)
 
 pub constants-cs-requires : goal.constants-cs-requires
-constants-cs-requires c = (known (goal.at.constants-cs-requires c).Else-not-fits).rows_most
+constants-cs-requires c = (known c).rows_most
 
 pub loop-at-init : goal.loop-at-init
 loop-at-init c = (search rules, filled_start _ _ _ (known (goal.at.loop-at-init c).Else-not-fits).out)

@@ -13,14 +13,14 @@ use Rattle.matrix.proofs.apply.Goals.{Else-not-fits}
 
 fits : (c : Else-not-fits) → let a = c.args in
     matrix_fits a.rows a.at.now a.from a.stride a.count (length a.matrix.now) (length a.columns.now) (length a.out.now) ≡ true
-fits c = sym c.fits2.ensures ∙ c.if-not-fits.false
+fits c = sym c.fits.ensures ∙ c.if-not-fits.false
 
 known : (c : Else-not-fits) → let a = c.args in
     Lengths a.rows a.at.now a.from a.stride a.count (length a.matrix.now) (length a.columns.now) (length a.out.now)
 known c = lengths_fit _ _ _ _ _ _ _ _ (fits c)
 
 pub returns-then-not-fits : goal.returns-then-not-fits
-returns-then-not-fits c = becomes_left _ _ _ _ _ _ _ _ (sym c.fits2.ensures ∙ c.if-not-fits.true)
+returns-then-not-fits c = becomes_left _ _ _ _ _ _ _ _ (sym c.fits.ensures ∙ c.if-not-fits.true)
 
 pub one_row-requires : goal.one_row-requires
 one_row-requires c =

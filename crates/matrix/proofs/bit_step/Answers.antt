@@ -31,13 +31,13 @@ number_small c =
     omega (arith, c.requires.1.1.1.1 c.loop-g.g c.loop-g-test.true, c.wide.ensures)
 
 pub overflow_add-o : goal.overflow_add-o
-overflow_add-o c = omega (arith, number_small (goal.at.overflow_add-o c).After-wide)
+overflow_add-o c = omega (arith, number_small c)
 
 pub overflow_mul-o-in-loop-g : goal.overflow_mul-o-in-loop-g
-overflow_mul-o-in-loop-g c = omega (arith, number_small (goal.at.overflow_mul-o-in-loop-g c).After-wide)
+overflow_mul-o-in-loop-g c = omega (arith, number_small c)
 
 pub overflow_add-e : goal.overflow_add-e
-overflow_add-e c = omega (arith, number_small (goal.at.overflow_add-e c).After-wide)
+overflow_add-e c = omega (arith, number_small c)
 
 pub slice_bounds-add-end-in-loop-g : goal.slice_bounds-add-end-in-loop-g
 slice_bounds-add-end-in-loop-g c = omega (arith, number_small (goal.at.slice_bounds-add-end-in-loop-g c).After-wide)

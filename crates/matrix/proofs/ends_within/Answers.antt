@@ -4,7 +4,7 @@ use Rattle.matrix.proofs.Shape.{none_fits, first_fits, some_fits}
 use Rattle.matrix.proofs.ends_within.Goals as goal
 
 pub returns-then-b-count : goal.returns-then-b-count
-returns-then-b-count c = c.args in none_fits a.c a.b a.from a.stride a.count (omega (arith, c.if-b-count.true))
+returns-then-b-count c = let a = c.args in none_fits a.c a.b a.from a.stride a.count (omega (arith, c.if-b-count.true))
 
 pub returns-then-b-count-2 : goal.returns-then-b-count-2
 returns-then-b-count-2 c =

@@ -18,7 +18,7 @@ unfolding matrix_fits
 returns-then-not-numbers_fit c = simp (sym c.numbers_fit.ensures ∙ c.if-not-numbers_fit.true)
 
 pub overflow_mul-rows : goal.overflow_mul-rows
-overflow_mul-rows c = numbers_fit_lem _ _ _ (known (goal.at.overflow_mul-rows c).Else-not-numbers_fit) in omega (arith, mul-le-mul h.rows_most h.columns_most)
+overflow_mul-rows c = let h = numbers_fit_lem _ _ _ (known c) in omega (arith, mul-le-mul h.rows_most h.columns_most)
 
 pub returns-then-a-rows : goal.returns-then-a-rows
 unfolding matrix_fits
@@ -33,7 +33,7 @@ returns-then-not-columns_fit c =
     simp (known (goal.at.returns-then-not-columns_fit c).Else-not-numbers_fit, eq-eqb _ _ c.if-a-rows.false, sym c.columns_fit.ensures ∙ c.if-not-columns_fit.true)
 
 pub overflow_mul-result : goal.overflow_mul-result
-overflow_mul-result c = numbers_fit_lem _ _ _ (known (goal.at.overflow_mul-result c).Else-not-numbers_fit) in omega (arith, mul-le-mul h.rows_most h.places_most)
+overflow_mul-result c = let h = numbers_fit_lem _ _ _ (known (goal.at.overflow_mul-result c).Else-not-numbers_fit) in omega (arith, mul-le-mul h.rows_most h.places_most)
 
 pub returns : goal.returns
 unfolding matrix_fits

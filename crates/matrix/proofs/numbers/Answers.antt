@@ -5,13 +5,12 @@ use Rattle.matrix.proofs.Digits.{left_start, left_turn, numbered_start, numbered
 use Rattle.matrix.proofs.numbers.Goals as goal
 
 pub loop-b-init : goal.loop-b-init
-loop-b-init c =
-    (
-      search rules,
-      left_start _ _ _ _ _ _ _ c.requires.1.0 c.weight-x.ensures c.weight-y.ensures c.weight-z.ensures c.weight-v.ensures
-          c.packed-p.ensures,
-      numbered_start _ _ _ _,
-    )
+loop-b-init c = (
+  search rules,
+  left_start _ _ _ _ _ _ _ c.requires.1.0 c.weight-x.ensures c.weight-y.ensures c.weight-z.ensures c.weight-v.ensures
+      c.packed-p.ensures,
+  numbered_start _ _ _ _,
+)
 
 pub loop-b-preserved : goal.loop-b-preserved
 loop-b-preserved c =

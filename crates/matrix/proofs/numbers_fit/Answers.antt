@@ -13,7 +13,7 @@ returns-then-rows-gt16 c = simp (le-leb _ _ c.if-rows-lt1.false, lt-leb _ _ c.if
 
 pub returns-then-m-lt1 : goal.returns-then-m-lt1
 unfolding numbers_fit
-returns-then-m-lt1 c = c.before in simp (le-leb _ _ b.before.if1.false, le-leb _ _ b.if2.false, lt-leb _ _ c.if-m-lt1.true)
+returns-then-m-lt1 c = simp (le-leb _ _ c.if-rows-lt1.false, le-leb _ _ c.if-rows-gt16.false, lt-leb _ _ c.if-m-lt1.true)
 
 pub returns-then-m-gt255 : goal.returns-then-m-gt255
 unfolding numbers_fit

@@ -10,13 +10,12 @@ use borrow.Author.Rules.{rules}
 use Rattle.matrix.proofs.straight.Goals as goal
 
 pub loop-b-init : goal.loop-b-init
-loop-b-init c =
-    (
-      search rules,
-      λ q h.
-          let place : 0 + q ≡ q = omega arith in
-          c.part-y.ensures q h ∙ ap (λ (x : ℕ). get_or c.args.t.now x 0) place ∙ c.requires.1.1.1.1.0 q h ∙ sym (fall_none 8 _),
-    )
+loop-b-init c = (
+  search rules,
+  λ q h.
+      let place : 0 + q ≡ q = omega arith in
+      c.part-y.ensures q h ∙ ap (λ (x : ℕ). get_or c.args.t.now x 0) place ∙ c.requires.1.1.1.1.0 q h ∙ sym (fall_none 8 _),
+)
 
 pub bit_step-requires : goal.bit_step-requires
 bit_step-requires c =

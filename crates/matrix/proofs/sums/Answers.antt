@@ -7,35 +7,31 @@ use Rattle.matrix.proofs.Parts.{summed_start, summed_turn, summed_done, power_ne
 use Rattle.matrix.proofs.Groups.{pow_small}
 use borrow.Author.Rules.{rules}
 use Rattle.matrix.proofs.sums.Goals as goal
-use Rattle.matrix.proofs.sums.Goals.{After-wide, Start}
+use Rattle.matrix.proofs.sums.Goals.{After-wide}
 
 pub loop-j-init : goal.loop-j-init
 loop-j-init c = (search rules, search rules, summed_start _ _ _ _ _ _ _ (omega arith) _ _ c.put.ensures)
 
-abbrev start : After-wide → Start
-start c = c.before.before.before.before.before.before.before.before.before.before.before.before
-
 -- column j lies in the columns
-inside : (c : After-wide) → let a = (start c).args in a.from + c.wide.result * a.stride + a.w ≤ length a.columns.now
+inside : (c : After-wide) → let a = c.args in a.from + c.wide.result * a.stride + a.w ≤ length a.columns.now
 inside c =
-    let s = start c in
     let at = c.loop-j in
-    subst (λ (x : ℕ). s.args.from + x * s.args.stride + s.args.w ≤ length s.args.columns.now) (sym c.wide.ensures)
-    (s.pre.1.1.1.1.1 (s.args.i + at.j) (omega (arith, s.pre.1.1.1.0, c.loop-j-test.true)))
+    subst (λ (x : ℕ). c.args.from + x * c.args.stride + c.args.w ≤ length c.args.columns.now) (sym c.wide.ensures)
+    (c.requires.1.1.1.1.1 (c.args.i + at.j) (omega (arith, c.requires.1.1.1.0, c.loop-j-test.true)))
 
 pub overflow_mul-wide : goal.overflow_mul-wide
-overflow_mul-wide c = omega (arith, inside (goal.at.overflow_mul-wide c).After-wide)
+overflow_mul-wide c = omega (arith, inside c)
 
 pub overflow_add-from : goal.overflow_add-from
-overflow_add-from c = omega (arith, inside (goal.at.overflow_add-from c).After-wide)
+overflow_add-from c = omega (arith, inside c)
 
 pub block-d-requires : goal.block-d-requires
-block-d-requires c = (inside (goal.at.block-d-requires c).After-wide, search rules)
+block-d-requires c = (inside c, search rules)
 
 pub widen-requires : goal.widen-requires
 widen-requires c =
     let at = c.loop-j in
-    let h = (start (goal.at.widen-requires c).After-wide).pre in
+    let h = c.requires in
     (omega arith, (h.1.0, omega (arith, at.invariant.1, pow_small at.j (omega arith))))
 
 pub overflow_mul-have : goal.overflow_mul-have
@@ -46,14 +42,13 @@ overflow_mul-have c =
 pub loop-j-preserved : goal.loop-j-preserved
 loop-j-preserved c =
     let at = c.loop-j in
-    let s = start (goal.at.loop-j-preserved c).After-wide in
-    let a = s.args in
+    let a = c.args in
     let is : a.from + c.wide.result * a.stride ≡ a.from + get_or a.cs.now (a.i + at.j) 0 * a.stride =
     ap (λ (x : ℕ). a.from + x * a.stride) c.wide.ensures in
     let read = c.block-d.ensures in
     let wide = c.widen.ensures in
-    let less : at.j < 4 = omega (arith, s.pre.1.1.0, c.loop-j-test.true) in
-    let turn = summed_turn _ _ _ _ _ _ _ s.pre.1.1.1.1.0 at.j at.have _ _ _ _ at.invariant.1 less at.invariant.2 in
+    let less : at.j < 4 = omega (arith, c.requires.1.1.0, c.loop-j-test.true) in
+    let turn = summed_turn _ _ _ _ _ _ _ c.requires.1.1.1.1.0 at.j at.have _ _ _ _ at.invariant.1 less at.invariant.2 in
     (search rules, power_next _ _ at.invariant.1, turn (λ q h. read q h ∙ ap (λ (x : ℕ). get_or a.columns.now (x + q) 0) is) wide)
 
 pub returns : goal.returns

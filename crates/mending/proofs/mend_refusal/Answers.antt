@@ -11,10 +11,10 @@ returns-then-no-ne0 c =
     refusal.ensures ∙ sym (mend_shape c.args.s c.args.d c.args.list.now (λ e. c.if-no-ne0.true (refusal.ensures ∙ e)))
 
 pub overflow_add-n : goal.overflow_add-n
-overflow_add-n c = allowed c.args.s (sym c.refusal-no.ensures ∙ c.if-no-ne0.false) in omega (arith, f.data_most, f.parity_most)
+overflow_add-n c = let f = allowed c.args.s (sym c.refusal-no.ensures ∙ c.if-no-ne0.false) in omega (arith, f.data_most, f.parity_most)
 
 pub overflow_mul-n : goal.overflow_mul-n
-overflow_mul-n c = allowed c.args.s (sym c.refusal-no.ensures ∙ c.if-no-ne0.false) in omega (arith, f.stripe-length)
+overflow_mul-n c = let f = allowed c.args.s (sym c.refusal-no.ensures ∙ c.if-no-ne0.false) in omega (arith, f.stripe-length)
 
 pub returns-then-d-n : goal.returns-then-d-n
 returns-then-d-n c =

@@ -6,10 +6,10 @@ use Rattle.mending.proofs.Pointed.{room_for, few_lost, repaired_restored}
 use Rattle.mending.proofs.restore_by_points.Goals as goal
 
 pub slice_bounds-at-end : goal.slice_bounds-at-end
-slice_bounds-at-end c = c.before.before in room_for s.args.s s.args.lost s.requires.0
+slice_bounds-at-end c = room_for c.args.s c.args.lost c.requires.0
 
 pub slice_bounds-repair-end : goal.slice_bounds-repair-end
-slice_bounds-repair-end c = c.before.before.before in sym (length-take-le _ _ (room_for s.args.s s.args.lost s.requires.0))
+slice_bounds-repair-end c = sym (length-take-le _ _ (room_for c.args.s c.args.lost c.requires.0))
 
 pub returns : goal.returns
 returns c =

@@ -5,10 +5,10 @@ use Rattle.plan.proofs.Refusals.{by_shape, by_stripes, by_new, by_none}
 use Rattle.plan.proofs.fold_refusal.Goals as goal
 
 pub returns-then-no-ne0 : goal.returns-then-no-ne0
-returns-then-no-ne0 c = c.refusal-no.ensures in r ∙ by_shape _ _ _ (λ e. c.if-no-ne0.true (r ∙ e))
+returns-then-no-ne0 c = let r = c.refusal-no.ensures in r ∙ by_shape _ _ _ (λ e. c.if-no-ne0.true (r ∙ e))
 
 pub stripes_allowed-requires : goal.stripes_allowed-requires
-stripes_allowed-requires c = allowed _ (sym c.refusal-no.ensures ∙ c.if-no-ne0.false) in (a.data_most, a.parity_most)
+stripes_allowed-requires c = let a = allowed _ (sym c.refusal-no.ensures ∙ c.if-no-ne0.false) in (a.data_most, a.parity_most)
 
 pub returns-then-not-stripes_allowed : goal.returns-then-not-stripes_allowed
 returns-then-not-stripes_allowed c =

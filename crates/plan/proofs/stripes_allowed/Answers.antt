@@ -27,7 +27,7 @@ returns-then-r-le-MOST_ROWS c =
     )
 
 pub overflow_add-result : goal.overflow_add-result
-overflow_add-result c = c.if-wide-gt-MOST_DATA.false in fits _ (omega (arith, most, c.requires.1))
+overflow_add-result c = let most = c.if-wide-gt-MOST_DATA.false in fits _ (omega (arith, most, c.requires.1))
 
 pub returns : goal.returns
 returns c =

@@ -8,13 +8,13 @@ use Rattle.repair.proofs.refusal.Goals as goal
 use Rattle.repair.proofs.refusal.Goals.{Else-not-fits}
 
 known : (c : Else-not-fits) → let a = c.args in repair_fits a.k a.r a.l a.d ≡ true
-known c = sym c.fits2.ensures ∙ c.if-not-fits.false
+known c = sym c.fits.ensures ∙ c.if-not-fits.false
 
 pub returns-then-not-fits : goal.returns-then-not-fits
-returns-then-not-fits c = sym (unfit _ _ _ _ _ (sym c.fits2.ensures ∙ c.if-not-fits.true))
+returns-then-not-fits c = sym (unfit _ _ _ _ _ (sym c.fits.ensures ∙ c.if-not-fits.true))
 
 pub overflow_add-k : goal.overflow_add-k
-overflow_add-k c = omega (arith, (numbers_fit_lem _ _ _ _ (known (goal.at.overflow_add-k c).Else-not-fits)).points_most)
+overflow_add-k c = omega (arith, (numbers_fit_lem _ _ _ _ (known c)).points_most)
 
 pub returns-then-not-ascends : goal.returns-then-not-ascends
 returns-then-not-ascends c = sym (unordered _ _ _ _ _ (known (goal.at.returns-then-not-ascends c).Else-not-fits) (sym c.ascends.ensures ∙ c.if-not-ascends.true))

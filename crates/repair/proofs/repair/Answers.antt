@@ -22,7 +22,7 @@ returns-then-no-ne0 c =
     record { refused = λ n. (e, refl); judged = λ z. absurd (c.if-no-ne0.true (e ∙ z)) }
 
 pub overflow_mul-n : goal.overflow_mul-n
-overflow_mul-n c = omega (arith, few (goal.at.overflow_mul-n c).Else-no-ne0)
+overflow_mul-n c = omega (arith, few c)
 
 pub slice_bounds-w-end : goal.slice_bounds-w-end
-slice_bounds-w-end c = omega (arith, few (goal.at.slice_bounds-w-end c).Else-no-ne0)
+slice_bounds-w-end c = omega (arith, few c)

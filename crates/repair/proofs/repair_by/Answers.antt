@@ -33,13 +33,13 @@ weights c =
     weighted _ _ _ _ _ (known c.before.before.before.before.before.before.before.before.before.before.before.before.before.before) _ _ _ (found c.before.before.before.before.before.before.before.before.before.before.before.before) (made c.before.before.before.before.before.before.before) c.requires.1 c.mending.ensures
 
 pub overflow_add-m : goal.overflow_add-m
-overflow_add-m c = known (goal.at.overflow_add-m c).Start in omega (arith, w.numbers.points_most)
+overflow_add-m c = let w = known (goal.at.overflow_add-m c).Start in omega (arith, w.numbers.points_most)
 
 pub overflow_sub-m : goal.overflow_sub-m
-overflow_sub-m c = known (goal.at.overflow_sub-m c).Start in omega (arith, w.few)
+overflow_sub-m c = let w = known (goal.at.overflow_sub-m c).Start in omega (arith, w.few)
 
 pub slice_bounds-kept-end : goal.slice_bounds-kept-end
-slice_bounds-kept-end c = known (goal.at.slice_bounds-kept-end c).Start in omega (arith, w.numbers.points_most)
+slice_bounds-kept-end c = let w = known (goal.at.slice_bounds-kept-end c).Start in omega (arith, w.numbers.points_most)
 
 pub survive-requires : goal.survive-requires
 survive-requires c =
@@ -47,10 +47,10 @@ survive-requires c =
     survive_lent _ _ _ _ _ w _ (omega (arith, w.numbers.points_most))
 
 pub slice_bounds-fill_computed-count : goal.slice_bounds-fill_computed-count
-slice_bounds-fill_computed-count c = known (goal.at.slice_bounds-fill_computed-count c).Start in omega (arith, w.few)
+slice_bounds-fill_computed-count c = let w = known (goal.at.slice_bounds-fill_computed-count c).Start in omega (arith, w.few)
 
 pub slice_bounds-fill_computed-start : goal.slice_bounds-fill_computed-start
-slice_bounds-fill_computed-start c = known (goal.at.slice_bounds-fill_computed-start c).Start in omega (arith, w.few)
+slice_bounds-fill_computed-start c = let w = known (goal.at.slice_bounds-fill_computed-start c).Start in omega (arith, w.few)
 
 pub slice_bounds-fill_computed-end : goal.slice_bounds-fill_computed-end
 slice_bounds-fill_computed-end c =
@@ -58,7 +58,7 @@ slice_bounds-fill_computed-end c =
     front_within _ _ _ _ (all_long _ _ _ _ _ w) (found (goal.at.slice_bounds-fill_computed-end c).After-survive) (omega arith)
 
 pub slice_bounds-to-end : goal.slice_bounds-to-end
-slice_bounds-to-end c = known (goal.at.slice_bounds-to-end c).Start in omega (arith, w.numbers.parity_most)
+slice_bounds-to-end c = let w = known (goal.at.slice_bounds-to-end c).Start in omega (arith, w.numbers.parity_most)
 
 pub fill_computed-requires : goal.fill_computed-requires
 fill_computed-requires c =

@@ -39,16 +39,16 @@ loop-i-init c =
     )
 
 pub overflow_sub-o-in-loop-i : goal.overflow_sub-o-in-loop-i
-overflow_sub-o-in-loop-i c = (before (goal.at.overflow_sub-o-in-loop-i c).In-loop-i).0
+overflow_sub-o-in-loop-i c = (before c).0
 
 pub overflow_add-s : goal.overflow_add-s
-overflow_add-s c = omega (arith, (before (goal.at.overflow_add-s c).In-loop-i).0, (before (goal.at.overflow_add-s c).In-loop-i).1.0)
+overflow_add-s c = omega (arith, (before c).0, (before c).1.0)
 
 pub overflow_add-e : goal.overflow_add-e
-overflow_add-e c = omega (arith, (before (goal.at.overflow_add-e c).In-loop-i).0, (before (goal.at.overflow_add-e c).In-loop-i).1.0)
+overflow_add-e c = omega (arith, (before c).0, (before c).1.0)
 
 pub slice_bounds-d-end : goal.slice_bounds-d-end
-slice_bounds-d-end c = omega (arith, (before (goal.at.slice_bounds-d-end c).In-loop-i).0, (before (goal.at.slice_bounds-d-end c).In-loop-i).1.0)
+slice_bounds-d-end c = omega (arith, (before c).0, (before c).1.0)
 
 pub loop-i-preserved : goal.loop-i-preserved
 loop-i-preserved c =

@@ -53,22 +53,22 @@ loop-i-init c =
     (search rules, (last-column (goal.at.loop-i-init c).Start).1.1, first3 _ _ _ _ _ _ known (omega arith) (omega arith) c.last-row0.ensures)
 
 pub overflow_sub-o-in-loop-i : goal.overflow_sub-o-in-loop-i
-overflow_sub-o-in-loop-i c = (before (goal.at.overflow_sub-o-in-loop-i c).In-loop-i).0
+overflow_sub-o-in-loop-i c = (before c).0
 
 pub overflow_add-s : goal.overflow_add-s
-overflow_add-s c = omega (arith, (before (goal.at.overflow_add-s c).In-loop-i).0, (before (goal.at.overflow_add-s c).In-loop-i).1.0)
+overflow_add-s c = omega (arith, (before c).0, (before c).1.0)
 
 pub overflow_add-e : goal.overflow_add-e
-overflow_add-e c = omega (arith, (before (goal.at.overflow_add-e c).In-loop-i).0, (before (goal.at.overflow_add-e c).In-loop-i).1.0)
+overflow_add-e c = omega (arith, (before c).0, (before c).1.0)
 
 pub overflow_sub-o-in-loop-i-2 : goal.overflow_sub-o-in-loop-i-2
-overflow_sub-o-in-loop-i-2 c = (before-that (goal.at.overflow_sub-o-in-loop-i-2 c).In-loop-i).0
+overflow_sub-o-in-loop-i-2 c = (before-that c).0
 
 pub overflow_add-t : goal.overflow_add-t
-overflow_add-t c = omega (arith, (before-that (goal.at.overflow_add-t c).In-loop-i).0, (before (goal.at.overflow_add-t c).In-loop-i).0, (before (goal.at.overflow_add-t c).In-loop-i).1.0)
+overflow_add-t c = omega (arith, (before-that c).0, (before c).0, (before c).1.0)
 
 pub overflow_add-u : goal.overflow_add-u
-overflow_add-u c = omega (arith, (before-that (goal.at.overflow_add-u c).In-loop-i).0, (before (goal.at.overflow_add-u c).In-loop-i).0, (before (goal.at.overflow_add-u c).In-loop-i).1.0)
+overflow_add-u c = omega (arith, (before-that c).0, (before c).0, (before c).1.0)
 
 pub slice_bounds-two_more-end : goal.slice_bounds-two_more-end
 slice_bounds-two_more-end c =
@@ -80,24 +80,24 @@ slice_bounds-two_more-end-in-loop-i c =
 
 pub loop-i-preserved : goal.loop-i-preserved
 loop-i-preserved c =
-    let t : tie.In-loop invariant-loop-i decreases-loop-i = c.before.before.before.before.before.before in
-    let at = t.before.loop in
-    let a = t.before.before.before.before.args in
+    let t = (goal.at.loop-i-preserved c).In-loop-i in
+    let at = c.loop-i in
+    let a = c.args in
     let b = before t in
     let b' = before-that t in
     let fits : at.o - a.l + a.from + 64 ≤ length a.«data».now = omega (arith, b.0, b.1.0) in
-    let twice : a.k - (at.i - 2) ≡ suc (suc (a.k - at.i)) = omega (arith, at.invariant.0, t.loop-test.true) in
-    let known : Bytes a.«data».now = λ i. (t.before.before.before.shared-slice-known.given i).fits in
+    let twice : a.k - (at.i - 2) ≡ suc (suc (a.k - at.i)) = omega (arith, at.invariant.0, c.loop-i-test.true) in
+    let known : Bytes a.«data».now = λ i. (c.shared_slice_known-1.given i).fits in
     (search rules, b'.1, turn3_two _ _ _ _ _ _ _ _ _ _ _ known b.0 fits at.invariant.2 _ b'.0 twice (c.two_more.ensures.row0_after, (c.two_more.ensures.row1_after, c.two_more.ensures.row2_after)))
 
 pub overflow_sub-s : goal.overflow_sub-s
-overflow_sub-s c = (left (goal.at.overflow_sub-s c).Then-i-gt0).0
+overflow_sub-s c = (left c).0
 
 pub overflow_add-s-then-i-gt0 : goal.overflow_add-s-then-i-gt0
-overflow_add-s-then-i-gt0 c = omega (arith, (left (goal.at.overflow_add-s-then-i-gt0 c).Then-i-gt0).0, (left (goal.at.overflow_add-s-then-i-gt0 c).Then-i-gt0).1.0)
+overflow_add-s-then-i-gt0 c = omega (arith, (left c).0, (left c).1.0)
 
 pub overflow_add-e-then-i-gt0 : goal.overflow_add-e-then-i-gt0
-overflow_add-e-then-i-gt0 c = omega (arith, (left (goal.at.overflow_add-e-then-i-gt0 c).Then-i-gt0).0, (left (goal.at.overflow_add-e-then-i-gt0 c).Then-i-gt0).1.0)
+overflow_add-e-then-i-gt0 c = omega (arith, (left c).0, (left c).1.0)
 
 pub slice_bounds-one_more-end : goal.slice_bounds-one_more-end
 slice_bounds-one_more-end c =
@@ -105,14 +105,14 @@ slice_bounds-one_more-end c =
 
 pub returns-then-i-gt0 : goal.returns-then-i-gt0
 returns-then-i-gt0 c =
-    let t : tie.Then1 invariant-loop-i decreases-loop-i = c.before.before.before.before.before in
-    let at = t.before.before.loop in
-    let a = t.before.before.before.before.before.args in
+    let t = (goal.at.returns-then-i-gt0 c).Then-i-gt0 in
+    let at = c.loop-i in
+    let a = c.args in
     let b = left t in
     let fits : at.o - a.l + a.from + 64 ≤ length a.«data».now = omega (arith, b.0, b.1.0) in
-    let more : a.k - (at.i - 1) ≡ suc (a.k - at.i) = omega (arith, at.invariant.0, t.if1.true) in
-    let none : at.i - 1 ≤ 0 = omega (arith, t.before.loop-test.false) in
-    let known : Bytes a.«data».now = λ i. (t.before.before.before.before.shared-slice-known.given i).fits in
+    let more : a.k - (at.i - 1) ≡ suc (a.k - at.i) = omega (arith, at.invariant.0, c.if-i-gt0.true) in
+    let none : at.i - 1 ≤ 0 = omega (arith, c.loop-i-test.false) in
+    let known : Bytes a.«data».now = λ i. (c.shared_slice_known-1.given i).fits in
     done3 _ _ _ _ (at.i - 1) _ _ _ _ _ none b.1.1 refl (turn3 _ _ _ _ _ _ _ _ _ _ _ known b.0 fits at.invariant.2 _ more (c.one_more.ensures.row0_after, (c.one_more.ensures.row1_after, c.one_more.ensures.row2_after)))
 
 pub returns-else-i-gt0 : goal.returns-else-i-gt0

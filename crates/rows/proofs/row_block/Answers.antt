@@ -8,13 +8,13 @@ use Rattle.field.specs.Bytes.{Bytes}
 use Rattle.rows.specs.Rows.{step_of}
 use Rattle.rows.proofs.Horner.{first, turn, done, column_before, step_right}
 use Rattle.rows.proofs.row_block.Goals as goal
-use Rattle.rows.proofs.row_block.Goals.{In-loop-i, Start}
+use Rattle.rows.proofs.row_block.Goals.{In-loop-i-unread, Start}
 
 last-column : (c : Start)
     → let d = length c.args.«data».now in (c.args.l ≤ d) × ((d ≤ d) × (d - c.args.l ≡ (c.args.k - 1) * c.args.l))
 last-column c = column_before _ c.args.k c.args.l c.args.k _ c.requires.0 (omega arith) c.requires.1.0 c.requires.0
 
-before : (c : In-loop-i)
+before : (c : In-loop-i-unread)
     → let a = c.args in
     let o = c.loop-i.o in (a.l ≤ o) × ((o ≤ length a.«data».now) × (o - a.l ≡ (c.loop-i.i - 1) * a.l))
 before c =
@@ -36,22 +36,24 @@ loop-i-init c =
     (search rules, (last-column (goal.at.loop-i-init c).Start).1.1, first _ _ _ _ _ _ _ _ _ known (omega arith) (omega arith) c.last-a.ensures)
 
 pub overflow_sub-o-in-loop-i : goal.overflow_sub-o-in-loop-i
-overflow_sub-o-in-loop-i c = (before (goal.at.overflow_sub-o-in-loop-i c).In-loop-i).0
+overflow_sub-o-in-loop-i c = (before c).0
 
 pub overflow_add-s : goal.overflow_add-s
-overflow_add-s c = omega (arith, (before (goal.at.overflow_add-s c).In-loop-i).0, (before (goal.at.overflow_add-s c).In-loop-i).1.0)
+overflow_add-s c = omega (arith, (before c).0, (before c).1.0)
 
 pub overflow_add-e : goal.overflow_add-e
-overflow_add-e c = omega (arith, (before (goal.at.overflow_add-e c).In-loop-i).0, (before (goal.at.overflow_add-e c).In-loop-i).1.0)
+overflow_add-e c = omega (arith, (before c).0, (before c).1.0)
 
 pub slice_bounds-step-end-in-loop-i : goal.slice_bounds-step-end-in-loop-i
-slice_bounds-step-end-in-loop-i c = omega (arith, (before (goal.at.slice_bounds-step-end-in-loop-i c).In-loop-i).0, (before (goal.at.slice_bounds-step-end-in-loop-i c).In-loop-i).1.0)
+slice_bounds-step-end-in-loop-i c =
+    let b = column_before _ c.args.k c.args.l c.loop-i.i c.loop-i.o c.requires.0 c.loop-i.invariant.0 c.loop-i-test.true c.loop-i.invariant.1 in
+    omega (arith, b.0, b.1.0)
 
 pub loop-i-preserved : goal.loop-i-preserved
 loop-i-preserved c =
     let at = c.loop-i in
     let a = c.args in
-    let b = before (goal.at.loop-i-preserved c).In-loop-i in
+    let b = column_before _ c.args.k c.args.l c.loop-i.i c.loop-i.o c.requires.0 c.loop-i.invariant.0 c.loop-i-test.true c.loop-i.invariant.1 in
     let fits : at.o - a.l + a.from + a.n ≤ length a.«data».now = omega (arith, b.0, b.1.0) in
     let more : a.k - (at.i - 1) ≡ suc (a.k - at.i) = omega (arith, at.invariant.0, c.loop-i-test.true) in
     let known : Bytes a.«data».now = λ i. (c.shared_slice_known-1.given i).fits in (

@@ -3,4 +3,4 @@ use Rattle.stripe.proofs.Unique.{same_shape}
 use Rattle.shelf.proofs.shape_of.Goals as goal
 
 pub returns : goal.returns
-returns c = c.new.ensures in same_shape _ _ e.0 e.1.0 e.1.1.0 e.1.1.1
+returns c = let e = c.new.ensures in same_shape _ _ e.0 e.1.0 e.1.1.0 e.1.1.1

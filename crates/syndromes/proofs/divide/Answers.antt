@@ -32,10 +32,10 @@ fits c =
     )
 
 pub overflow_mul-a : goal.overflow_mul-a
-overflow_mul-a c = omega (arith, fits (goal.at.overflow_mul-a c).In-loop-j)
+overflow_mul-a c = omega (arith, fits c)
 
 pub overflow_add-e : goal.overflow_add-e
-overflow_add-e c = omega (arith, fits (goal.at.overflow_add-e c).In-loop-j)
+overflow_add-e c = omega (arith, fits c)
 
 pub overflow_mul-j : goal.overflow_mul-j
 overflow_mul-j c =

@@ -4,7 +4,7 @@ use Rattle.syndromes.proofs.Filling.{parted, plain_lacks, set_apart}
 use Rattle.syndromes.proofs.syndromes.Goals as goal
 
 pub returns-then-not-lent : goal.returns-then-not-lent
-returns-then-not-lent c = c.lent.ensures.not_so (c.if-not-lent.true) in record { lent = λ h. absurd (n h); not_lent = λ h. refl }
+returns-then-not-lent c = let n = c.lent.ensures.not_so (c.if-not-lent.true) in record { lent = λ h. absurd (n h); not_lent = λ h. refl }
 
 pub fill_whole-requires : goal.fill_whole-requires
 fill_whole-requires c = c.lent.ensures.so (c.if-not-lent.false)

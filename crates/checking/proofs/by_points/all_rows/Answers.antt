@@ -19,19 +19,19 @@ pub loop-i-init : goal.loop-i-init
 loop-i-init c = (search rules, λ ys w h. rows_none _ _ _ ys _ _ _ h)
 
 pub overflow_mul-a : goal.overflow_mul-a
-overflow_mul-a c = omega (arith, ends (goal.at.overflow_mul-a c).In-loop-i)
+overflow_mul-a c = omega (arith, ends c)
 
 pub overflow_add-a : goal.overflow_add-a
-overflow_add-a c = omega (arith, ends (goal.at.overflow_add-a c).In-loop-i)
+overflow_add-a c = omega (arith, ends c)
 
 pub overflow_add-e : goal.overflow_add-e
-overflow_add-e c = omega (arith, ends (goal.at.overflow_add-e c).In-loop-i)
+overflow_add-e c = omega (arith, ends c)
 
 pub overflow_mul-f : goal.overflow_mul-f
-overflow_mul-f c = omega (arith, ends-made (goal.at.overflow_mul-f c).In-loop-i)
+overflow_mul-f c = omega (arith, ends-made c)
 
 pub overflow_add-g : goal.overflow_add-g
-overflow_add-g c = omega (arith, ends-made (goal.at.overflow_add-g c).In-loop-i)
+overflow_add-g c = omega (arith, ends-made c)
 
 pub slice_bounds-difference-end : goal.slice_bounds-difference-end
 slice_bounds-difference-end c =

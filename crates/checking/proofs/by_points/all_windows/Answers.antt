@@ -18,7 +18,7 @@ step-most-requires c =
     (a.parity_some, a.few)
 
 pub overflow_mul-b : goal.overflow_mul-b
-overflow_mul-b c = c.before.before.before.before.before in omega (arith, lent_most s.args.s _ _ s.requires.0)
+overflow_mul-b c = omega (arith, lent_most c.args.s _ _ c.requires.0)
 
 pub loop-p-init : goal.loop-p-init
 loop-p-init c = (search rules, search rules, windows_none _ _ _ _)
@@ -40,7 +40,7 @@ pub overflow_mul-m : goal.overflow_mul-m
 overflow_mul-m c = omega (arith, few (goal.at.overflow_mul-m c).After-shorter-n)
 
 pub slice_bounds-made-end : goal.slice_bounds-made-end
-slice_bounds-made-end c = omega (arith, few (goal.at.slice_bounds-made-end c).After-shorter-n, c.loop-p.invariant.1)
+slice_bounds-made-end c = omega (arith, few c, c.loop-p.invariant.1)
 
 pub window-b-requires : goal.window-b-requires
 window-b-requires c =
@@ -54,7 +54,7 @@ overflow_add-p c =
     omega (arith, ends (goal.at.overflow_add-p c).After-shorter-n, (pointed c.args.s (lent c.args.s _ _ c.requires.0).shape c.requires.1.0).length_most)
 
 pub loop-p-smaller : goal.loop-p-smaller
-loop-p-smaller c = c.before.before.before in omega (arith, ends n, some n)
+loop-p-smaller c = omega (arith, ends (goal.at.loop-p-smaller c).After-shorter-n, some (goal.at.loop-p-smaller c).After-shorter-n)
 
 pub loop-p-preserved : goal.loop-p-preserved
 loop-p-preserved c =

@@ -24,7 +24,7 @@ order c =
     order_filled _ _ _ (omega (arith, (numbers c.args.s _ _ _ c.requires).fits)) c.in_order.ensures
 
 pub slice_bounds-at-end : goal.slice_bounds-at-end
-slice_bounds-at-end c = c.before.before.before.before.before.before.before in omega (arith, (numbers s.args.s _ _ _ s.requires).fits)
+slice_bounds-at-end c = omega (arith, (numbers c.args.s _ _ _ c.requires).fits)
 
 pub slice_bounds-all_windows-end : goal.slice_bounds-all_windows-end
 slice_bounds-all_windows-end c = front_fits _ _ _ (tabulate-length _ _) (order (goal.at.slice_bounds-all_windows-end c).After-in_order)

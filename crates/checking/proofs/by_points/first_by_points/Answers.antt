@@ -15,10 +15,10 @@ constants : (s : Shape) (d p : ℕ) → (lent_refusal s d p ≡ 0) × (by_points
 constants s d p h = (pointed s (lent s d p h.0).shape h.1).small
 
 pub overflow_mul-n : goal.overflow_mul-n
-overflow_mul-n c = c.before.before.before in omega (arith, constants s.args.s _ _ s.requires)
+overflow_mul-n c = omega (arith, constants c.args.s _ _ c.requires)
 
 pub slice_bounds-w-end : goal.slice_bounds-w-end
-slice_bounds-w-end c = c.before.before.before in omega (arith, constants s.args.s _ _ s.requires)
+slice_bounds-w-end c = omega (arith, constants c.args.s _ _ c.requires)
 
 pub first_by-requires : goal.first_by-requires
 first_by-requires c =

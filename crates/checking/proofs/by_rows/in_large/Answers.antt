@@ -16,7 +16,7 @@ most : (s : Shape) (d p : ℕ) → (lent_refusal s d p ≡ 0) × (by_points s �
 most s d p h = parity_most s d p h.0 (rows_most s (allowed s (lent s d p h.0).shape) h.1)
 
 pub slice_bounds-made-end : goal.slice_bounds-made-end
-slice_bounds-made-end c = c.before.before in omega (arith, most s.args.s _ _ s.requires)
+slice_bounds-made-end c = omega (arith, most c.args.s _ _ c.requires)
 
 pub compared-requires : goal.compared-requires
-compared-requires c = c.before.before.before in (s.requires.0, (s.requires.1, front_length _ _ (most s.args.s _ _ s.requires)))
+compared-requires c = (c.requires.0, (c.requires.1, front_length _ _ (most c.args.s _ _ c.requires)))

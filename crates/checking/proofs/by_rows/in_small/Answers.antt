@@ -4,4 +4,4 @@ use Rattle.checking.proofs.Where.{front_length}
 use Rattle.checking.proofs.by_rows.in_small.Goals as goal
 
 pub compared-requires : goal.compared-requires
-compared-requires c = c.before.before.before in (s.requires.0, (s.requires.1.0, front_length _ _ (omega (arith, s.requires.1.1))))
+compared-requires c = (c.requires.0, (c.requires.1.0, front_length _ _ (omega (arith, c.requires.1.1))))

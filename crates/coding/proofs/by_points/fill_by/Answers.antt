@@ -24,7 +24,7 @@ order c =
     order_filled _ _ _ (few c.args.s _ _ _ c.requires) c.in_order.ensures
 
 pub slice_bounds-at-end : goal.slice_bounds-at-end
-slice_bounds-at-end c = c.before.before.before.before.before.before.before in few s.args.s _ _ _ s.requires
+slice_bounds-at-end c = few c.args.s _ _ _ c.requires
 
 pub slice_bounds-apply-end : goal.slice_bounds-apply-end
 slice_bounds-apply-end c = front_fits _ _ _ (tabulate-length _ _) (order (goal.at.slice_bounds-apply-end c).After-in_order)

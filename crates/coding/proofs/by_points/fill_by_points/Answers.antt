@@ -15,14 +15,14 @@ small : (s : Shape) (d p : ℕ) → (lent_refusal s d p ≡ 0) × (by_points s �
 small s d p h = (pointed s (lent s d p h.0).shape h.1).small
 
 pub overflow_mul-n : goal.overflow_mul-n
-overflow_mul-n c = c.before.before.before in omega (arith, small s.args.s _ _ s.requires)
+overflow_mul-n c = omega (arith, small c.args.s _ _ c.requires)
 
 pub fill_by-requires : goal.fill_by-requires
 fill_by-requires c =
     (c.requires.0, (c.requires.1, front_length _ _ (omega (arith, c.if-n-le256.true))))
 
 pub slice_bounds-w-end-2 : goal.slice_bounds-w-end-2
-slice_bounds-w-end-2 c = c.before.before.before.before in omega (arith, small s.args.s _ _ s.requires)
+slice_bounds-w-end-2 c = omega (arith, small c.args.s _ _ c.requires)
 
 pub fill_by-requires-2 : goal.fill_by-requires-2
 fill_by-requires-2 c =

@@ -14,23 +14,19 @@ known : (c : Start) (m : ℕ) → m ≡ run_length c.args.s
     → Marked c.args.s (length c.args.«data».now) (length c.args.out.now) m
 known c m = marked c.args.s _ _ m c.requires.0 c.requires.1.0
 
--- the function's start, the bytes of a run, and what is known of both within the loop
-abbrev start : In-loop-j → Start
-start c = c.before.before.before.before.before
-
+-- the bytes of a run, and what is known of the arguments within the loop
 abbrev width : In-loop-j → ℕ
 width c = c.run_length-m.result
 
 known-here : (c : In-loop-j)
-    → let a = (start c).args in Marked a.s (length a.«data».now) (length a.out.now) (width c)
-known-here c = known (start c) (width c) c.run_length-m.ensures
+    → let a = c.args in Marked a.s (length a.«data».now) (length a.out.now) (width c)
+known-here c = marked c.args.s _ _ (width c) c.requires.0 c.requires.1.0 c.run_length-m.ensures
 
 here : (c : In-loop-j)
-    → let a = (start c).args in InRun a.s (length a.«data».now) a.i c.loop-j.j (length c.loop-j.out) (width c)
+    → let a = c.args in InRun a.s (length a.«data».now) a.i c.loop-j.j (length c.loop-j.out) (width c)
 here c =
-    let s = start c in
     let at = c.loop-j in
-    in_run s.args.s _ _ _ _ s.args.i at.j (known-here c) at.invariant.4.long s.pre.1.1.0 c.loop-j-test.true
+    in_run c.args.s _ _ _ _ c.args.i at.j (known-here c) at.invariant.4.long c.requires.1.1.0 c.loop-j-test.true
 
 pub loop-j-init : goal.loop-j-init
 loop-j-init c =
@@ -43,27 +39,26 @@ loop-j-init c =
     )
 
 pub overflow_mul-a : goal.overflow_mul-a
-overflow_mul-a c = omega (arith, here (goal.at.overflow_mul-a c).In-loop-j)
+overflow_mul-a c = omega (arith, here c)
 
 pub overflow_mul-a-in-loop-j : goal.overflow_mul-a-in-loop-j
-overflow_mul-a-in-loop-j c = omega (arith, here (goal.at.overflow_mul-a-in-loop-j c).In-loop-j)
+overflow_mul-a-in-loop-j c = omega (arith, here c)
 
 pub overflow_add-a : goal.overflow_add-a
-overflow_add-a c = omega (arith, here (goal.at.overflow_add-a c).In-loop-j)
+overflow_add-a c = omega (arith, here c)
 
 pub overflow_add-e : goal.overflow_add-e
-overflow_add-e c = omega (arith, here (goal.at.overflow_add-e c).In-loop-j)
+overflow_add-e c = omega (arith, here c)
 
 pub overflow_mul-i : goal.overflow_mul-i
-overflow_mul-i c = omega (arith, (here (goal.at.overflow_mul-i c).In-loop-j).run, (here (goal.at.overflow_mul-i c).In-loop-j).known.inside)
+overflow_mul-i c = omega (arith, (here c).run, (here c).known.inside)
 
 pub slice_bounds-add_row-end : goal.slice_bounds-add_row-end
-slice_bounds-add_row-end c = omega (arith, here (goal.at.slice_bounds-add_row-end c).In-loop-j)
+slice_bounds-add_row-end c = omega (arith, here c)
 
 pub loop-j-preserved : goal.loop-j-preserved
 loop-j-preserved c =
-    let s = start (goal.at.loop-j-preserved c).In-loop-j in
-    let a = s.args in
+    let a = c.args in
     let at = c.loop-j in
     let m = width (goal.at.loop-j-preserved c).In-loop-j in
     let f = known-here (goal.at.loop-j-preserved c).In-loop-j in

@@ -8,4 +8,4 @@ fill_by_points-requires c =
     (c.requires, many_by_points c.args.s c.if-s-gt-MOST_ROWS.true (allowed c.args.s (lent c.args.s _ _ c.requires).shape).parity_most)
 
 pub fill_by_rows-requires : goal.fill_by_rows-requires
-fill_by_rows-requires c = c.before.before.before.before.before in (s.requires, few_by_rows s.args.s c.if-s-gt-MOST_ROWS.false)
+fill_by_rows-requires c = (c.requires, few_by_rows c.args.s c.if-s-gt-MOST_ROWS.false)

@@ -8,10 +8,10 @@ use Rattle.fold.proofs.ByPoints.{constants_long, columns_most, constants_most}
 use Rattle.fold.proofs.by_points.fill_by_points.Goals as goal
 
 pub overflow_mul-m : goal.overflow_mul-m
-overflow_mul-m c = c.before.before.before in omega (arith, columns_most _ _ _ _ z.requires c.read_columns.ensures)
+overflow_mul-m c = omega (arith, columns_most _ _ _ _ c.requires c.read_columns.ensures)
 
 pub overflow_mul-size : goal.overflow_mul-size
-overflow_mul-size c = c.before.before.before.before in omega (arith, constants_most _ _ _ _ z.requires c.read_columns.ensures)
+overflow_mul-size c = omega (arith, constants_most _ _ _ _ c.requires c.read_columns.ensures)
 
 pub fill_constants-requires : goal.fill_constants-requires
 fill_constants-requires c =
@@ -30,7 +30,7 @@ fill_columns-requires c =
     )
 
 pub slice_bounds-w-end-2 : goal.slice_bounds-w-end-2
-slice_bounds-w-end-2 c = c.before.before in constants_most _ _ _ _ columns.before.before.before.requires columns.read-columns.ensures
+slice_bounds-w-end-2 c = constants_most _ _ _ _ c.requires c.read_columns.ensures
 
 pub fill_constants-requires-2 : goal.fill_constants-requires-2
 fill_constants-requires-2 c =

@@ -17,10 +17,10 @@ order c =
     order_filled _ _ _ (columns_most _ _ _ _ c.requires.0 c.read_columns.ensures) c.in_order.ensures
 
 pub overflow_mul-m : goal.overflow_mul-m
-overflow_mul-m c = c.before.before.before.before in omega (arith, columns_most _ _ _ _ z.requires.0 c.read_columns.ensures)
+overflow_mul-m c = omega (arith, columns_most _ _ _ _ c.requires.0 c.read_columns.ensures)
 
 pub slice_bounds-at-end : goal.slice_bounds-at-end
-slice_bounds-at-end c = c.before.before.before.before in columns_most _ _ _ _ z.requires.0 c.read_columns.ensures
+slice_bounds-at-end c = columns_most _ _ _ _ c.requires.0 c.read_columns.ensures
 
 pub slice_bounds-apply-end : goal.slice_bounds-apply-end
 slice_bounds-apply-end c = front_fits _ _ _ (tabulate-length _ _) (order (goal.at.slice_bounds-apply-end c).After-in_order)

@@ -19,23 +19,23 @@ length-here : (c : In-loop-j) → let l = c.args.s.l in let a = c.loop-j.j * l i
 length-here c = room_long _ _ _ _ _ _ c.loop-j-test.true _ c.loop-j.invariant.1
 
 pub loop-j-init : goal.loop-j-init
-loop-j-init c = c.before.before in (search rules, rows_start _ _ _ z.args.d.now z.args.parity.now z.requires)
+loop-j-init c = (search rules, rows_start _ _ _ c.args.d.now c.args.parity.now c.requires)
 
 pub overflow_mul-a : goal.overflow_mul-a
-overflow_mul-a c = fits _ (omega (arith, room (goal.at.overflow_mul-a c).In-loop-j))
+overflow_mul-a c = fits _ (omega (arith, room c))
 
 pub overflow_add-b : goal.overflow_add-b
-overflow_add-b c = fits _ (omega (arith, room (goal.at.overflow_add-b c).In-loop-j))
+overflow_add-b c = fits _ (omega (arith, room c))
 
 pub slice_bounds-fill_row-end : goal.slice_bounds-fill_row-end
-slice_bounds-fill_row-end c = room (goal.at.slice_bounds-fill_row-end c).In-loop-j
+slice_bounds-fill_row-end c = room c
 
 pub overflow_mul-j : goal.overflow_mul-j
 overflow_mul-j c =
     fits _ (omega (arith, exponent_small _ _ _ c.args.d.now c.args.parity.now c.requires _ c.loop-j-test.true))
 
 pub overflow_mul-f : goal.overflow_mul-f
-overflow_mul-f c = c.before.before.before.before.before in fits _ (omega (arith, z.requires.parity_long))
+overflow_mul-f c = fits _ (omega (arith, c.requires.parity_long))
 
 pub fill_row-requires : goal.fill_row-requires
 fill_row-requires c =
@@ -50,7 +50,7 @@ loop-j-preserved c =
     (search rules, rows_turn _ _ _ _ _ _ c.loop-j-test.true at.parity at.invariant.1 _ c.fill_row.ensures)
 
 pub shape_of-parity : goal.shape_of-parity
-shape_of-parity c = c.before.before.before.before in omega (arith, c.loop-j.invariant.1.long, z.requires.parity_long)
+shape_of-parity c = omega (arith, c.loop-j.invariant.1.long, c.requires.parity_long)
 
 pub returns : goal.returns
 returns c =

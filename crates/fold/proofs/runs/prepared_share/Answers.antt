@@ -13,7 +13,7 @@ marked_some : {t : ℕ} → 0 < t → t ≡ 0 → ⊥
 marked_some h e = omega arith
 
 pub overflow_sub-m : goal.overflow_sub-m
-overflow_sub-m c = mark_prepared _ c.requires.0 c.requires.1.0 in omega (arith, p.gains)
+overflow_sub-m c = let p = mark_prepared _ c.requires.0 c.requires.1.0 in omega (arith, p.gains)
 
 pub overflow_mul-m : goal.overflow_mul-m
 overflow_mul-m c = fits _ (omega (arith, part_small _ c.requires.0))
@@ -22,7 +22,7 @@ pub overflow_mul-parity : goal.overflow_mul-parity
 overflow_mul-parity c = fits _ (omega (arith, data_parts _ c.requires.0))
 
 pub overflow_mul-result : goal.overflow_mul-result
-overflow_mul-result c = c.before.before in fits _ (omega (arith, few_parts _ z.requires.0 z.args.j (omega (arith, z.requires.1.1.0, z.requires.1.1.1))))
+overflow_mul-result c = fits _ (omega (arith, few_parts _ c.requires.0 c.args.j (omega (arith, c.requires.1.1.0, c.requires.1.1.1))))
 
 pub overflow_mul-result-then-r-b : goal.overflow_mul-result-then-r-b
 overflow_mul-result-then-r-b c =
@@ -47,7 +47,7 @@ overflow_mul-result-then-j-r c =
     fits _ (omega (arith, new_product _ c.requires.0 c.args.j (omega (arith, c.requires.1.1.0, c.requires.1.1.1))))
 
 pub overflow_mul-result-then-j-r-2 : goal.overflow_mul-result-then-j-r-2
-overflow_mul-result-then-j-r-2 c = c.before.before.before in fits _ (omega (arith, few_runs _ z.requires.0 z.args.b (omega (arith, z.requires.1.1.0, z.requires.1.1.1))))
+overflow_mul-result-then-j-r-2 c = fits _ (omega (arith, few_runs _ c.requires.0 c.args.b (omega (arith, c.requires.1.1.0, c.requires.1.1.1))))
 
 pub overflow_add-result-then-j-r : goal.overflow_add-result-then-j-r
 overflow_add-result-then-j-r c =
@@ -83,7 +83,7 @@ overflow_mul-result-2 c =
     fits _ (omega (arith, new_product _ c.requires.0 c.args.b (omega (arith, c.requires.1.1.0, c.requires.1.1.1))))
 
 pub overflow_mul-result-3 : goal.overflow_mul-result-3
-overflow_mul-result-3 c = c.before.before.before in fits _ (omega (arith, few_runs _ z.requires.0 z.args.j (omega (arith, z.requires.1.1.0, z.requires.1.1.1))))
+overflow_mul-result-3 c = fits _ (omega (arith, few_runs _ c.requires.0 c.args.j (omega (arith, c.requires.1.1.0, c.requires.1.1.1))))
 
 pub overflow_add-result-2 : goal.overflow_add-result-2
 overflow_add-result-2 c =
@@ -105,7 +105,7 @@ overflow_add-result-3 c =
     ))
 
 pub overflow_mul-result-4 : goal.overflow_mul-result-4
-overflow_mul-result-4 c = c.before.before.before in fits _ (omega (arith, few_parts _ z.requires.0 z.args.b (omega (arith, z.requires.1.1.0, z.requires.1.1.1))))
+overflow_mul-result-4 c = fits _ (omega (arith, few_parts _ c.requires.0 c.args.b (omega (arith, c.requires.1.1.0, c.requires.1.1.1))))
 
 pub overflow_mul-result-5 : goal.overflow_mul-result-5
 overflow_mul-result-5 c =

@@ -6,7 +6,7 @@ use Rattle.plan.proofs.Bounds.{fits, new_product}
 use Rattle.fold.proofs.runs.share_of.Goals as goal
 
 pub overflow_mul-result : goal.overflow_mul-result
-overflow_mul-result c = c.before.before.before in fits _ (omega (arith, new_product _ z.requires.0 z.args.j (omega (arith, z.requires.1.0))))
+overflow_mul-result c = fits _ (omega (arith, new_product _ c.requires.0 c.args.j (omega (arith, c.requires.1.0))))
 
 pub returns-then-s-eq0 : goal.returns-then-s-eq0
 unfolding share_of

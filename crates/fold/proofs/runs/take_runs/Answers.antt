@@ -123,7 +123,7 @@ overflow_add-i c =
     fits _ (omega (arith, t, mul-le-mul {n₂ = most_rows} (new_few c.args.s c.args.f c.requires.0.shape c.requires.0.new c.requires.0.rows) r))
 
 pub loop-i-smaller : goal.loop-i-smaller
-loop-i-smaller c = c.loop-i-test.true in omega (arith, t)
+loop-i-smaller c = let t = c.loop-i-test.true in omega (arith, t)
 
 pub loop-i-preserved : goal.loop-i-preserved
 loop-i-preserved c =
@@ -137,7 +137,7 @@ loop-i-preserved c =
     )
 
 pub shape_of-parity : goal.shape_of-parity
-shape_of-parity c = c.before.before.before.before.before.before.before in omega (arith, c.loop-i.invariant.1.long, z.requires.1.1.1)
+shape_of-parity c = omega (arith, c.loop-i.invariant.1.long, c.requires.1.1.1)
 
 pub returns : goal.returns
 returns c =

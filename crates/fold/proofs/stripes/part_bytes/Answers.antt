@@ -13,7 +13,7 @@ pub returns-then-t-eq0 : goal.returns-then-t-eq0
 returns-then-t-eq0 c = sym (no_part c.args.s c.if-t-eq0.true)
 
 pub overflow_sub-result : goal.overflow_sub-result
-overflow_sub-result c = mark_prepared _ c.requires (search rules) in omega (arith, p.gains)
+overflow_sub-result c = let p = mark_prepared _ c.requires (search rules) in omega (arith, p.gains)
 
 pub overflow_mul-result : goal.overflow_mul-result
 overflow_mul-result c = fits _ (omega (arith, part_small _ c.requires))

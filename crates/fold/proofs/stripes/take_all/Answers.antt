@@ -9,13 +9,13 @@ use Rattle.fold.proofs.Summing.{from, sum_turn, sum_done, each_fits, each_part, 
 use Rattle.fold.proofs.stripes.take_all.Goals as goal
 
 pub nonzero_div-each : goal.nonzero_div-each
-nonzero_div-each c = (foldable _ _ _ c.requires.1.0).stripes_some in omega arith
+nonzero_div-each c = let g = (foldable _ _ _ c.requires.1.0).stripes_some in omega arith
 
 pub overflow_sub-last : goal.overflow_sub-last
-overflow_sub-last c = (foldable _ _ _ c.requires.1.0).stripes_some in omega arith
+overflow_sub-last c = let g = (foldable _ _ _ c.requires.1.0).stripes_some in omega arith
 
 pub loop-l-init : goal.loop-l-init
-loop-l-init c = c.before.before.before in (omega arith, (z.requires.1.1.1.0, (z.requires.1.1.1.1, λ h. absurd (omega arith))))
+loop-l-init c = (omega arith, (c.requires.1.1.1.0, (c.requires.1.1.1.1, λ h. absurd (omega arith))))
 
 pub overflow_mul-a : goal.overflow_mul-a
 overflow_mul-a c =
@@ -52,7 +52,7 @@ take_stripe-requires c =
     )
 
 pub loop-l-smaller : goal.loop-l-smaller
-loop-l-smaller c = c.loop-l-test.true in omega (arith, t)
+loop-l-smaller c = let t = c.loop-l-test.true in omega (arith, t)
 
 pub loop-l-preserved : goal.loop-l-preserved
 loop-l-preserved c =
@@ -79,10 +79,10 @@ loop-l-preserved c =
     )
 
 pub shape_of-rows : goal.shape_of-rows
-shape_of-rows c = c.before.before.before.before.before in omega (arith, c.loop-l.invariant.1.0, z.requires.1.1.1.0)
+shape_of-rows c = omega (arith, c.loop-l.invariant.1.0, c.requires.1.1.1.0)
 
 pub shape_of-parity : goal.shape_of-parity
-shape_of-parity c = c.before.before.before.before.before in omega (arith, c.loop-l.invariant.1.1.0, z.requires.1.1.1.1)
+shape_of-parity c = omega (arith, c.loop-l.invariant.1.1.0, c.requires.1.1.1.1)
 
 pub returns : goal.returns
 returns c =

@@ -19,13 +19,13 @@ inside c =
     (c.requires.1.1 c.loop-j.j c.loop-j-test.true)
 
 pub overflow_mul-wide : goal.overflow_mul-wide
-overflow_mul-wide c = omega (arith, inside (goal.at.overflow_mul-wide c).After-wide)
+overflow_mul-wide c = omega (arith, inside c)
 
 pub overflow_add-from : goal.overflow_add-from
-overflow_add-from c = omega (arith, inside (goal.at.overflow_add-from c).After-wide)
+overflow_add-from c = omega (arith, inside c)
 
 pub block-d-requires : goal.block-d-requires
-block-d-requires c = (inside (goal.at.block-d-requires c).After-wide, search rules)
+block-d-requires c = (inside c, search rules)
 
 pub loop-j-preserved : goal.loop-j-preserved
 loop-j-preserved c =

@@ -21,4 +21,4 @@ loop-v-preserved c =
     )
 
 pub returns : goal.returns
-returns c = c.loop-v in (l.invariant.1.0, (refl, λ v h. l.invariant.1.1 v (omega arith)))
+returns c = let l = c.loop-v in (l.invariant.1.0, (refl, λ v h. l.invariant.1.1 v (omega arith)))

@@ -11,10 +11,10 @@ pub loop-v-init : goal.loop-v-init
 loop-v-init c = (search rules, gathering_start _ _ _ _ _ _)
 
 pub overflow_mul-v : goal.overflow_mul-v
-overflow_mul-v c = c.requires in omega (arith, w.source (c.loop-v.v - 1) (omega arith), w.small)
+overflow_mul-v c = let w = c.requires in omega (arith, w.source (c.loop-v.v - 1) (omega arith), w.small)
 
 pub overflow_add-from : goal.overflow_add-from
-overflow_add-from c = c.requires in omega (arith, w.source (c.loop-v.v - 1) (omega arith), w.small)
+overflow_add-from c = let w = c.requires in omega (arith, w.source (c.loop-v.v - 1) (omega arith), w.small)
 
 pub loop-v-preserved : goal.loop-v-preserved
 loop-v-preserved c =

@@ -19,7 +19,7 @@ row_weights-w-requires c =
     weights_asked c.args.s c.args.p _ _ (allowed c.args.s w.0.shape) w.0.posed w.1.0 w.1.1.0
 
 pub slice_bounds-w-end : goal.slice_bounds-w-end
-slice_bounds-w-end c = c.requires.0.posed in omega (arith, c.row_weights-w.ensures.0, w.many, w.few)
+slice_bounds-w-end c = let w = c.requires.0.posed in omega (arith, c.row_weights-w.ensures.0, w.many, w.few)
 
 pub slice_bounds-gather-end : goal.slice_bounds-gather-end
 slice_bounds-gather-end c =

@@ -13,10 +13,10 @@ pub loop-u-init : goal.loop-u-init
 loop-u-init c = (search rules, (search rules, clearing_start _ _ _ _ _ _))
 
 pub overflow_mul-to : goal.overflow_mul-to
-overflow_mul-to c = c.requires in omega (arith, w.0.room (c.loop-u.u - 1) (omega arith), w.0.small)
+overflow_mul-to c = let w = c.requires in omega (arith, w.0.room (c.loop-u.u - 1) (omega arith), w.0.small)
 
 pub overflow_add-to : goal.overflow_add-to
-overflow_add-to c = c.requires in omega (arith, w.0.room (c.loop-u.u - 1) (omega arith), w.0.small)
+overflow_add-to c = let w = c.requires in omega (arith, w.0.room (c.loop-u.u - 1) (omega arith), w.0.small)
 
 pub overflow_sub-to : goal.overflow_sub-to
 overflow_sub-to c =

@@ -5,7 +5,7 @@ use Rattle.mending.proofs.Slots.{sources_as, rest_long, first_sources, first_one
 use Rattle.mending.proofs.solve.first_value.Goals as goal
 
 pub overflow_add-at : goal.overflow_add-at
-overflow_add-at c = c.requires in omega (arith, w.0.room 0 w.1, w.0.small, w.0.step)
+overflow_add-at c = let w = c.requires in omega (arith, w.0.room 0 w.1, w.0.small, w.0.step)
 
 pub gather-requires : goal.gather-requires
 gather-requires c =
@@ -21,7 +21,7 @@ returns-then-w-eq1 c =
     g.ensures
 
 pub overflow_add-e : goal.overflow_add-e
-overflow_add-e c = c.requires in omega (arith, w.0.room 0 w.1, w.0.small)
+overflow_add-e c = let w = c.requires in omega (arith, w.0.room 0 w.1, w.0.small)
 
 pub slice_bounds-scale_all-end : goal.slice_bounds-scale_all-end
 slice_bounds-scale_all-end c =

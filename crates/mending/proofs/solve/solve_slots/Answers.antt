@@ -11,10 +11,10 @@ pub returns-then-e-eq0 : goal.returns-then-e-eq0
 returns-then-e-eq0 c = solved_none _ _ _ _ _ _ c.if-e-eq0.true
 
 pub clear-requires : goal.clear-requires
-clear-requires c = c.requires in (w.0, some_of _ c.if-e-eq0.false)
+clear-requires c = let w = c.requires in (w.0, some_of _ c.if-e-eq0.false)
 
 pub set_apart-w-requires : goal.set_apart-w-requires
-set_apart-w-requires c = c.requires in (w.0.few, w.1)
+set_apart-w-requires c = let w = c.requires in (w.0.few, w.1)
 
 pub slice_bounds-w-end : goal.slice_bounds-w-end
 slice_bounds-w-end c =

@@ -5,7 +5,7 @@ use Rattle.mending.proofs.Posed.{small_product}
 use Rattle.mending.proofs.system.row_weight.Goals as goal
 
 pub overflow_sub-at : goal.overflow_sub-at
-overflow_sub-at c = c.before.before.before.before in (z.requires.1.1.1 z.args.v c.if-p-v.false).0
+overflow_sub-at c = (c.requires.1.1.1 c.args.v c.if-p-v.false).0
 
 pub overflow_mul-at : goal.overflow_mul-at
 overflow_mul-at c =

@@ -6,7 +6,7 @@ use Rattle.mending.proofs.Posed.{posed}
 use Rattle.mending.proofs.system.system_of.Goals as goal
 
 pub overflow_add-k : goal.overflow_add-k
-overflow_add-k c = allowed c.args.s c.requires.shape in omega (arith, f.data_most, f.parity_most)
+overflow_add-k c = let f = allowed c.args.s c.requires.shape in omega (arith, f.data_most, f.parity_most)
 
 pub data_lost-count-requires : goal.data_lost-count-requires
 data_lost-count-requires c =

@@ -12,16 +12,16 @@ use Rattle.plan.proofs.Capped.{capped_is}
 use Rattle.plan.proofs.counts.bytes_each.Goals as goal
 
 pub overflow_mul-result : goal.overflow_mul-result
-overflow_mul-result c = c.before.before.before in fits _ (omega (arith, new_product _ b.requires.0 b.args.f b.requires.1))
+overflow_mul-result c = fits _ (omega (arith, new_product _ c.requires.0 c.args.f c.requires.1))
 
 pub overflow_sub-data : goal.overflow_sub-data
 overflow_sub-data c =
-    let p = b_prepared _ c.args.f c.requires.0 (sym c.kind_of-kind.ensures ∙ c.enum_told-in-B-1.given.1) in
+    let p = b_prepared _ c.args.f c.requires.0 (sym c.in-B.ensures) in
     omega (arith, p.gains)
 
 pub nonzero_div-data : goal.nonzero_div-data
 nonzero_div-data c =
-    let p = b_prepared _ c.args.f c.requires.0 (sym c.kind_of-kind.ensures ∙ c.enum_told-in-B-1.given.1) in
+    let p = b_prepared _ c.args.f c.requires.0 (sym c.in-B.ensures) in
     omega (arith, p.gains)
 
 pub overflow_mul-data : goal.overflow_mul-data
@@ -40,13 +40,13 @@ pub returns-in-A : goal.returns-in-A
 unfolding bytes_each
 returns-in-A c =
     let a = c.args in
-    sym (ap (λ (κ : Kind). bytes_each κ a.s a.f) (sym c.kind_of-kind.ensures ∙ c.enum_told-1.given.1))
+    sym (ap (λ (κ : Kind). bytes_each κ a.s a.f) (sym c.in-A.ensures))
 
 pub returns-in-B : goal.returns-in-B
 unfolding bytes_each
 returns-in-B c =
     let s = c.args.s in
-    let of-kind = sym c.kind_of-kind.ensures ∙ c.enum_told-in-B-1.given.1 in
+    let of-kind = sym c.in-B.ensures in
     let whole = runs_whole s (allowed s c.requires.0) (b_prepared s c.args.f c.requires.0 of-kind) in
     c.plus.ensures
     ∙ sym
@@ -60,4 +60,4 @@ pub returns-in-C : goal.returns-in-C
 unfolding bytes_each
 returns-in-C c =
     let a = c.args in
-    sym (ap (λ (κ : Kind). bytes_each κ a.s a.f) (sym c.kind_of-kind.ensures ∙ c.enum_told-in-C-1.given.1))
+    sym (ap (λ (κ : Kind). bytes_each κ a.s a.f) (sym c.in-C.ensures))

@@ -12,7 +12,7 @@ pub returns-in-A : goal.returns-in-A
 unfolding columns_each
 returns-in-A c =
     let a = c.args in
-    sym (ap (λ (κ : Kind). columns_each κ a.s a.f) (sym c.kind_of-kind.ensures ∙ c.enum_told-1.given.1))
+    sym (ap (λ (κ : Kind). columns_each κ a.s a.f) (sym c.in-A.ensures))
 
 pub returns-in-B : goal.returns-in-B
 unfolding columns_each
@@ -20,10 +20,10 @@ returns-in-B c =
     let a = c.args in
     let p = c.requires in
     c.plus.ensures ∙ sym (capped_is (a.s.k + a.s.r) (omega (arith, data_small _ p, parity_small _ p)))
-    ∙ sym (ap (λ (κ : Kind). columns_each κ a.s a.f) (sym c.kind_of-kind.ensures ∙ c.enum_told-in-B-1.given.1))
+    ∙ sym (ap (λ (κ : Kind). columns_each κ a.s a.f) (sym c.in-B.ensures))
 
 pub returns-in-C : goal.returns-in-C
 unfolding columns_each
 returns-in-C c =
     let a = c.args in
-    sym (ap (λ (κ : Kind). columns_each κ a.s a.f) (sym c.kind_of-kind.ensures ∙ c.enum_told-in-C-1.given.1))
+    sym (ap (λ (κ : Kind). columns_each κ a.s a.f) (sym c.in-C.ensures))

@@ -16,10 +16,10 @@ pub overflow_sub-n : goal.overflow_sub-n
 overflow_sub-n c = c.loop-q.invariant.0
 
 pub overflow_add-to : goal.overflow_add-to
-overflow_add-to c = c.loop-q in omega (arith, l.invariant.1.0.first, l.invariant.0)
+overflow_add-to c = let l = c.loop-q in omega (arith, l.invariant.1.0.first, l.invariant.0)
 
 pub overflow_add-from : goal.overflow_add-from
-overflow_add-from c = c.loop-q in omega (arith, l.invariant.1.0.second, l.invariant.0)
+overflow_add-from c = let l = c.loop-q in omega (arith, l.invariant.1.0.second, l.invariant.0)
 
 pub mix_part-requires : goal.mix_part-requires
 mix_part-requires c =
@@ -27,10 +27,10 @@ mix_part-requires c =
     (part_ready l.q _ l.a l.invariant.1.0 (omega (arith, c.loop-q-test.true, l.invariant.0)) l.invariant.1.1.long, omega arith)
 
 pub overflow_add-q : goal.overflow_add-q
-overflow_add-q c = c.loop-q in omega (arith, c.loop-q-test.true, l.invariant.0)
+overflow_add-q c = let l = c.loop-q in omega (arith, c.loop-q-test.true, l.invariant.0)
 
 pub loop-q-smaller : goal.loop-q-smaller
-loop-q-smaller c = c.loop-q in omega (arith, c.loop-q-test.true, l.invariant.0)
+loop-q-smaller c = let l = c.loop-q in omega (arith, c.loop-q-test.true, l.invariant.0)
 
 pub loop-q-preserved : goal.loop-q-preserved
 loop-q-preserved c =
@@ -40,10 +40,10 @@ loop-q-preserved c =
     (fits, (l.invariant.1.0, within_part 64 l.invariant.1.0 fits l.invariant.1.1 c.mix_part.ensures))
 
 pub overflow_add-to-then-q-n : goal.overflow_add-to-then-q-n
-overflow_add-to-then-q-n c = c.loop-q in omega (arith, l.invariant.1.0.first, l.invariant.0)
+overflow_add-to-then-q-n c = let l = c.loop-q in omega (arith, l.invariant.1.0.first, l.invariant.0)
 
 pub overflow_add-from-then-q-n : goal.overflow_add-from-then-q-n
-overflow_add-from-then-q-n c = c.loop-q in omega (arith, l.invariant.1.0.second, l.invariant.0)
+overflow_add-from-then-q-n c = let l = c.loop-q in omega (arith, l.invariant.1.0.second, l.invariant.0)
 
 pub overflow_sub-n-then-q-n : goal.overflow_sub-n-then-q-n
 overflow_sub-n-then-q-n c = c.loop-q.invariant.0

@@ -8,16 +8,16 @@ use Rattle.products.proofs.Halving.{block_bytes, by_rest, by_one}
 use Rattle.products.proofs.within.mix_part.Goals as goal
 
 pub overflow_add-e : goal.overflow_add-e
-overflow_add-e c = disjoint_is c.requires.0 in omega (arith, h.second)
+overflow_add-e c = let h = disjoint_is c.requires.0 in omega (arith, h.second)
 
 pub slice_bounds-copy-end-2 : goal.slice_bounds-copy-end-2
-slice_bounds-copy-end-2 c = disjoint_is c.requires.0 in omega (arith, h.second)
+slice_bounds-copy-end-2 c = let h = disjoint_is c.requires.0 in omega (arith, h.second)
 
 pub overflow_add-f : goal.overflow_add-f
-overflow_add-f c = disjoint_is c.requires.0 in omega (arith, h.first)
+overflow_add-f c = let h = disjoint_is c.requires.0 in omega (arith, h.first)
 
 pub slice_bounds-add-end : goal.slice_bounds-add-end
-slice_bounds-add-end c = disjoint_is c.requires.0 in omega (arith, h.first)
+slice_bounds-add-end c = let h = disjoint_is c.requires.0 in omega (arith, h.first)
 
 pub returns-then-k-eq1 : goal.returns-then-k-eq1
 returns-then-k-eq1 c =
@@ -30,7 +30,7 @@ returns-then-k-eq1 c =
     within_same (within_block _ _ _ _ c.args.a.now _ _ h c.requires.1 c.copy.ensures is) (within_places _ _ _ _ _ h)
 
 pub slice_bounds-scale_add-end : goal.slice_bounds-scale_add-end
-slice_bounds-scale_add-end c = disjoint_is c.requires.0 in omega (arith, h.first)
+slice_bounds-scale_add-end c = let h = disjoint_is c.requires.0 in omega (arith, h.first)
 
 pub returns : goal.returns
 returns c =

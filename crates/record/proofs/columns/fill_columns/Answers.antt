@@ -35,7 +35,7 @@ survives c =
     (sym c.is_lost.ensures ∙ c.if-not-is_lost.true)
 
 pub overflow_add-end : goal.overflow_add-end
-overflow_add-end c = omega (arith, survives (goal.at.overflow_add-end c).Then-not-is_lost)
+overflow_add-end c = omega (arith, survives c)
 
 pub slice_bounds-copy-end : goal.slice_bounds-copy-end
 slice_bounds-copy-end c =
@@ -67,7 +67,7 @@ loop-c-preserved c =
     let a = c.args in
     let v = c.loop-c in
     let t = c.loop-c-test.true in
-    let w = passed (goal.at.loop-c-preserved c).Joined-not-is_lost in
+    let w = passed c in
     let zs = take a.l (drop v.at a.from.now) in
     let z = passed_length _ _ _ v.to zs _ _ _ _ w in
     let fits : v.to + a.l ≤ length v.stripe = omega (arith, walk_column v.invariant.1.0 t, v.invariant.0) in

@@ -19,10 +19,10 @@ pub loop-c-init : goal.loop-c-init
 loop-c-init c = (refl, search rules, walk_start _ _ _ refl c.requires.1)
 
 pub bounds-out-m : goal.bounds-out-m
-bounds-out-m c = room (goal.at.bounds-out-m c).Else-is_next
+bounds-out-m c = room c
 
 pub overflow_add-m : goal.overflow_add-m
-overflow_add-m c = omega (arith, room (goal.at.overflow_add-m c).Else-is_next)
+overflow_add-m c = omega (arith, room c)
 
 pub loop-c-preserved : goal.loop-c-preserved
 loop-c-preserved c =

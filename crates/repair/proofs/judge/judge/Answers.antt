@@ -38,11 +38,11 @@ pub loop-at-init : goal.loop-at-init
 loop-at-init c = (search rules, search rules, holds_none _ _ _ _)
 
 pub overflow_mul-m : goal.overflow_mul-m
-overflow_mul-m c = omega (arith, room (goal.at.overflow_mul-m c).After-shorter-n)
+overflow_mul-m c = omega (arith, room c)
 
 pub slice_bounds-judge_window-end : goal.slice_bounds-judge_window-end
 slice_bounds-judge_window-end c =
-    omega (arith, room (goal.at.slice_bounds-judge_window-end c).After-shorter-n, c.loop-at.invariant.1, c.requires.1)
+    omega (arith, room c, c.loop-at.invariant.1, c.requires.1)
 
 pub judge_window-requires : goal.judge_window-requires
 judge_window-requires c = (c.requires.0, window (goal.at.judge_window-requires c).After-shorter-n)

@@ -24,10 +24,10 @@ pub loop-v-init : goal.loop-v-init
 loop-v-init c = (search rules, put_start _ _ _ _ _ _)
 
 pub overflow_mul-a : goal.overflow_mul-a
-overflow_mul-a c = omega (arith, row_ends (goal.at.overflow_mul-a c).In-loop-v)
+overflow_mul-a c = omega (arith, row_ends c)
 
 pub overflow_add-b : goal.overflow_add-b
-overflow_add-b c = omega (arith, row_ends (goal.at.overflow_add-b c).In-loop-v)
+overflow_add-b c = omega (arith, row_ends c)
 
 pub overflow_cast-o : goal.overflow_cast-o
 overflow_cast-o c = omega (arith, c.shared_slice_known-in-loop-v-1.given c.loop-v.v)

@@ -36,7 +36,7 @@ pub loop-at-init : goal.loop-at-init
 loop-at-init c = (search rules, search rules, put_none _ _ _ _)
 
 pub overflow_mul-m : goal.overflow_mul-m
-overflow_mul-m c = omega (arith, room (goal.at.overflow_mul-m c).After-shorter-n)
+overflow_mul-m c = omega (arith, room c)
 
 pub slice_bounds-write_window-end : goal.slice_bounds-write_window-end
 slice_bounds-write_window-end c =

@@ -21,7 +21,7 @@ pub loop-i-init : goal.loop-i-init
 loop-i-init c = (omega arith, c.requires.0, refl, length-replicate {A = ℕ} 896 0, start _ _ _ _ _ _ (omega arith))
 
 pub overflow_sub-o : goal.overflow_sub-o
-overflow_sub-o c = (before (goal.at.overflow_sub-o c).In-loop-i).0
+overflow_sub-o c = (before c).0
 
 pub after-s-requires : goal.after-s-requires
 after-s-requires c = (omega (arith, c.loop-i.invariant.2), omega arith)

@@ -14,7 +14,7 @@ passed : (c : Else-no-ne0) → shape_refusal c.args.s ≡ 0
 passed c = sym c.refusal-no.ensures ∙ c.if-no-ne0.false
 
 pub overflow_mul-k : goal.overflow_mul-k
-overflow_mul-k c = omega (arith, (allowed c.args.s (passed (goal.at.overflow_mul-k c).Else-no-ne0)).data-length)
+overflow_mul-k c = omega (arith, (allowed c.args.s (passed c)).data-length)
 
 pub returns-then-d-k : goal.returns-then-d-k
 returns-then-d-k c = sym (lent_data _ _ _ (passed (goal.at.returns-then-d-k c).Else-no-ne0) c.if-d-k.true)

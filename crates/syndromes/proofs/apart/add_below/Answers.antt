@@ -37,7 +37,7 @@ add_row2-requires-in-loop-b c =
     (places_at _ c.requires.0 fits, (omega arith, c.add_rows-in-loop-b.ensures))
 
 pub loop-b-smaller : goal.loop-b-smaller
-loop-b-smaller c = c.before.before.before.before.before.before.before.before in omega (arith, t.loop-test.true)
+loop-b-smaller c = omega (arith, c.loop-b-test.true)
 
 pub loop-b-preserved : goal.loop-b-preserved
 loop-b-preserved c =

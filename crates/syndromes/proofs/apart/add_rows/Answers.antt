@@ -4,7 +4,7 @@ use Rattle.syndromes.proofs.Upwards.{places_less, block_room, added_rows}
 use Rattle.syndromes.proofs.apart.add_rows.Goals as goal
 
 pub below-v-requires : goal.below-v-requires
-below-v-requires c = c.requires.0 in places_less 2 (omega arith) h.some h
+below-v-requires c = let h = c.requires.0 in places_less 2 (omega arith) h.some h
 
 pub plus-requires : goal.plus-requires
 plus-requires c =

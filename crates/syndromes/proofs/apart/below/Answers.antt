@@ -27,10 +27,10 @@ within c =
     column_within _ a.k a.l 2 a.x a.from at.i at.o c.requires c.loop-i-test.true at.invariant.1
 
 pub overflow_add-e : goal.overflow_add-e
-overflow_add-e c = omega (arith, (within (goal.at.overflow_add-e c).In-loop-i).0)
+overflow_add-e c = omega (arith, (within c).0)
 
 pub slice_bounds-d-end : goal.slice_bounds-d-end
-slice_bounds-d-end c = omega (arith, (within (goal.at.slice_bounds-d-end c).In-loop-i).0)
+slice_bounds-d-end c = omega (arith, (within c).0)
 
 pub overflow_add-o : goal.overflow_add-o
 overflow_add-o c = omega (arith, (within (goal.at.overflow_add-o c).In-loop-i).1)

@@ -6,7 +6,7 @@ use Rattle.text.proofs.Pieces.{front_room, rest_room, put_then}
 use Rattle.text.proofs.line.put_number.Goals as goal
 
 pub put_decimal-next-requires : goal.put_decimal-next-requires
-put_decimal-next-requires c = c.before.before in front_room s.args.out.now s.args.at (decimal s.args.n) (s.args.after ∷ []) s.requires
+put_decimal-next-requires c = front_room c.args.out.now c.args.at (decimal c.args.n) (c.args.after ∷ []) c.requires
 
 pub put_byte-requires : goal.put_byte-requires
 put_byte-requires c =

@@ -37,10 +37,10 @@ survives c =
     omega (arith, walk_survivor v.invariant.1.0 c.loop-c-test.true k, v.invariant.0)
 
 pub overflow_add-end : goal.overflow_add-end
-overflow_add-end c = omega (arith, survives (goal.at.overflow_add-end c).Then-not-is_lost)
+overflow_add-end c = omega (arith, survives c)
 
 pub slice_bounds-copy-end : goal.slice_bounds-copy-end
-slice_bounds-copy-end c = survives (goal.at.slice_bounds-copy-end c).Then-not-is_lost
+slice_bounds-copy-end c = survives c
 
 pub slice_bounds-copy-end-then-not-is_lost : goal.slice_bounds-copy-end-then-not-is_lost
 slice_bounds-copy-end-then-not-is_lost c = walk_column c.loop-c.invariant.1.0 c.loop-c-test.true
@@ -67,7 +67,7 @@ loop-c-preserved c =
     let a = c.args in
     let v = c.loop-c in
     let t = c.loop-c-test.true in
-    let w = passed (goal.at.loop-c-preserved c).Joined-not-is_lost in
+    let w = passed c in
     let zs = take a.l (drop v.from a.stripe.now) in
     let z = passed_length _ _ _ v.at zs _ _ _ _ w in
     let law = survive_turn _ a.n v.c v.from v.at _ _ _ v.out _ t (walk_column v.invariant.1.0 t) w in

@@ -2,21 +2,18 @@
 use Prim.Native.Nat.{ℕ, zero, suc, ◌+◌, ◌-◌, ◌*◌, ◌^◌, ◌≤◌, ◌<◌}
 use mathlib.Core.Path.{◌≡◌, refl, sym, ap, ◌∙◌}
 use mathlib.Core.Bool.{Bool, true, false, cond}
-use mathlib.Core.List.{List, [], ◌∷◌}
-use mathlib.Core.Logic.{inl, inr, ⊎_elim}
+use mathlib.Core.List.{List}
+use mathlib.Core.Logic.{⊎_elim}
 use native.Mathlib.Nat.{pow-le-pow_right, pow-suc, one-le-pow}
 use native.Mathlib.Omega.{arith}
 use lib.Dec.{eqb, lit<}
 use lib.ListN.{length, get_or}
-use types.Run.{OneOf}
 use borrow.Author.Tests.{le-leb, lt-leb, lt-ltb, le-ltb, eq-eqb, ne_eqb, eqb-false}
-use denote.Enum.Declared.{tag_of}
 use Rattle.field.specs.Bytes.{Bytes}
 use Rattle.field.proofs.Cases.{below_or_from}
 use Rattle.number.specs.declared.Number.{Number}
 use Rattle.number.specs.declared.Number.TheVariants.{Value, Cut, Malformed}
 use Rattle.number.specs.Number.{onto, groups_at, limited}
-use Rattle.number.specs.contracts.Number.{the_type}
 
 pub at_none : (m : ℕ) (s : List ℕ) (at : ℕ) → m ≡ 0 → Malformed ≡ groups_at m s at
 unfolding groups_at
@@ -48,12 +45,8 @@ pub onto_more : (d v next : ℕ) (g : Number) → Value v next ≡ g → (v ≡ 
 onto_more d v next g e z = rw (← e, ne_eqb v 0 z)
 
 -- what is no number stays as it is
-pub onto_none : (d : ℕ) (g : Number) → OneOf (1 ∷ 2 ∷ []) (tag_of the_type g) → g ≡ onto d g
-onto_none d (Value v next) h = absurd (no_number h)
-  where
-    no_number : OneOf (1 ∷ 2 ∷ []) 0 → ⊥
-    no_number (inl e) = omega arith
-    no_number (inr e) = omega arith
+pub onto_none : (d : ℕ) (g : Number) → ((v next : ℕ) → g ≡ Value v next → ⊥) → g ≡ onto d g
+onto_none d (Value v next) h = absurd (h v next refl)
 onto_none d Cut h = refl
 onto_none d Malformed h = refl
 
@@ -113,12 +106,8 @@ left_small m s at v next h z l e =
     omega (arith, groups_small (m - 1) s (at + 1) v next h e, pow-le-pow_right {n = 128} (lit< tt) {i = m - 1} {j = 4} (omega arith))
 
 -- the largest number
-pub limited_none : (g : Number) → OneOf (1 ∷ 2 ∷ []) (tag_of the_type g) → g ≡ limited g
-limited_none (Value v next) h = absurd (no_number h)
-  where
-    no_number : OneOf (1 ∷ 2 ∷ []) 0 → ⊥
-    no_number (inl e) = omega arith
-    no_number (inr e) = omega arith
+pub limited_none : (g : Number) → ((v next : ℕ) → g ≡ Value v next → ⊥) → g ≡ limited g
+limited_none (Value v next) h = absurd (h v next refl)
 limited_none Cut h = refl
 limited_none Malformed h = refl
 

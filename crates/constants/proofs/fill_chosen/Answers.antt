@@ -1,6 +1,5 @@
 -- `fill_chosen` meets its contract: the first v entries are there.
 use mathlib.Core.Path.{◌≡◌, sym, ◌∙◌}
-use mathlib.Core.Logic.{⊎_elim}
 use native.Mathlib.Nat.{not-suc-le-zero}
 use native.Mathlib.Omega.{arith}
 use lib.ListN.{get_or, get_or-eq_default}
@@ -8,14 +7,14 @@ use borrow.Author.Rules.{rules}
 use Rattle.lagrange.proofs.Lanes.{set_turn}
 use Rattle.constants.proofs.Points.{entries_exact}
 use Rattle.constants.proofs.fill_chosen.Goals as goal
-use Rattle.constants.proofs.fill_chosen.Goals.{Joined-c-points}
+use Rattle.constants.proofs.fill_chosen.Goals.{Joined-c-points, then-c-points, else-c-points}
 
 -- the entry that is stored
 chosen : (c : Joined-c-points) → let a = c.args in
     c.if-c-points.out ≡ get_or a.points.now (get_or a.at.now c.loop-v.v 0) 0
 chosen c =
     let ps = c.args.points.now in
-    ⊎_elim (λ w. w.2) (λ w. w.1 ∙ sym (get_or-eq_default ps 0 w.0.left)) c.if-c-points.branch
+    elim c.if-c-points.branch [ then-c-points w ↦ w.out-is | else-c-points w ↦ w.out-is ∙ sym (get_or-eq_default ps 0 w.if-c-points.false) ]
 
 pub loop-v-init : goal.loop-v-init
 loop-v-init c = (search rules, search rules, λ q h. absurd (not-suc-le-zero h))

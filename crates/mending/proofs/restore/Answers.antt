@@ -8,11 +8,10 @@ use Rattle.mending.proofs.Smaller.{few_list_lem, ready_rows}
 use Rattle.mending.proofs.restore.Goals as goal
 
 pub restore_short-requires : goal.restore_short-requires
-restore_short-requires c =
-    (
-      ready_rows c.args.s c.args.lost _ c.few_of-w.ensures c.requires.0 c.if-s-gt-MOST_ROWS.false,
-      (c.requires.1, (refl, c.if-n-le-SHORT.true)),
-    )
+restore_short-requires c = (
+  ready_rows c.args.s c.args.lost _ c.few_of-w.ensures c.requires.0 c.if-s-gt-MOST_ROWS.false,
+  (c.requires.1, (refl, c.if-n-le-SHORT.true)),
+)
 
 pub returns-then-n-le-SHORT : goal.returns-then-n-le-SHORT
 returns-then-n-le-SHORT c =
@@ -24,11 +23,10 @@ returns-then-n-le-SHORT c =
     done.ensures
 
 pub restore_longer-requires : goal.restore_longer-requires
-restore_longer-requires c =
-    (
-      ready_rows c.args.s c.args.lost _ c.few_of-w.ensures c.requires.0 c.if-s-gt-MOST_ROWS.false,
-      (c.requires.1, refl),
-    )
+restore_longer-requires c = (
+  ready_rows c.args.s c.args.lost _ c.few_of-w.ensures c.requires.0 c.if-s-gt-MOST_ROWS.false,
+  (c.requires.1, refl),
+)
 
 pub returns : goal.returns
 returns c =

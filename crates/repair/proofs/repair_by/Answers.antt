@@ -18,19 +18,23 @@ known c = lawful _ _ _ _ _ c.requires.0
 found : (c : After-survive) → let a = c.args in
     c.survive.new.out ≡ survivors 0 (a.k + a.r) a.lost.now
 found c =
-    let w = known c.before.before.before.before.before in
+    let w = lawful _ _ _ _ _ c.requires.0 in
     survived _ _ _ _ _ w _ (omega (arith, w.numbers.points_most)) c.survive.ensures
 
 made : (c : After-fill_computed) → let a = c.args in
     c.fill_computed.new.out ≡ computed a.k a.r a.lost.now
 made c =
-    chosen _ _ _ _ _ (known c.before.before.before.before.before.before.before.before.before) _ (found c.before.before.before.before.before) c.fill_computed.ensures
+    let w = lawful _ _ _ _ _ c.requires.0 in
+    let survivors_here = survived _ _ _ _ _ w _ (omega (arith, w.numbers.points_most)) c.survive.ensures in
+    chosen _ _ _ _ _ w _ survivors_here c.fill_computed.ensures
 
 weights : (c : After-mending) →
     let a = c.args in
     c.mending.new.out ≡ mending_of a.k a.r (computed a.k a.r a.lost.now) (sources a.k a.r a.lost.now)
 weights c =
-    weighted _ _ _ _ _ (known c.before.before.before.before.before.before.before.before.before.before.before.before.before.before) _ _ _ (found c.before.before.before.before.before.before.before.before.before.before.before.before) (made c.before.before.before.before.before.before.before) c.requires.1 c.mending.ensures
+    let w = lawful _ _ _ _ _ c.requires.0 in
+    let survivors_here = survived _ _ _ _ _ w _ (omega (arith, w.numbers.points_most)) c.survive.ensures in
+    weighted _ _ _ _ _ w _ _ _ survivors_here (chosen _ _ _ _ _ w _ survivors_here c.fill_computed.ensures) c.requires.1 c.mending.ensures
 
 pub overflow_add-m : goal.overflow_add-m
 overflow_add-m c = let w = known (goal.at.overflow_add-m c).Start in omega (arith, w.numbers.points_most)

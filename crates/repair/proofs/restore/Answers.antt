@@ -44,11 +44,10 @@ pub slice_bounds-write-end : goal.slice_bounds-write-end
 slice_bounds-write-end c = omega (arith, inside (goal.at.slice_bounds-write-end c).Start)
 
 pub write-requires : goal.write-requires
-write-requires c =
-    (
-      write_lent c.args.w.now c.args.kept.now c.args.to.now c.args.stripe.now c.args.k c.args.l c.requires.0 c.requires.1,
-      (c.requires.1.distinct, search rules),
-    )
+write-requires c = (
+  write_lent c.args.w.now c.args.kept.now c.args.to.now c.args.stripe.now c.args.k c.args.l c.requires.0 c.requires.1,
+  (c.requires.1.distinct, search rules),
+)
 
 pub returns : goal.returns
 returns c =

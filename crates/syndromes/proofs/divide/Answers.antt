@@ -56,8 +56,7 @@ loop-j-smaller c = omega (arith, c.loop-j-test.true)
 
 pub loop-j-preserved : goal.loop-j-preserved
 loop-j-preserved c =
-    let at = c.loop-j in
-    (
+    let at = c.loop-j in (
       search rules,
       divide_turn _ _ _ at.j _ _ _ _ at.invariant.1 at.invariant.2 (fits (goal.at.loop-j-preserved c).In-loop-j)
           (c.inverse-c.ensures ∙ ap inverse_of c.power.ensures)

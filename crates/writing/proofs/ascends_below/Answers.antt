@@ -8,7 +8,7 @@ pub loop-i-init : goal.loop-i-init
 loop-i-init c = refl
 
 pub overflow_cast-e : goal.overflow_cast-e
-overflow_cast-e c = omega (arith, c.shared_slice_known-1.given c.loop-i.i)
+overflow_cast-e c = omega (arith, c.type_inv.lost c.loop-i.i)
 
 pub returns-then-e-least : goal.returns-then-e-least
 returns-then-e-least c =
@@ -23,7 +23,7 @@ returns-then-n-e c =
     sym (v.invariant ∙ ascends_high a.lost.now a.n v.least v.i c.loop-i-test.true c.if-e-least.false c.if-n-e.true)
 
 pub overflow_add-least : goal.overflow_add-least
-overflow_add-least c = omega (arith, c.shared_slice_known-1.given c.loop-i.i)
+overflow_add-least c = omega (arith, c.type_inv.lost c.loop-i.i)
 
 pub loop-i-preserved : goal.loop-i-preserved
 loop-i-preserved c =

@@ -95,8 +95,6 @@ put_number-first-requires c =
 
 pub put_positions-requires : goal.put_positions-requires
 put_positions-requires c =
-    let start =
-    c.before.before.before.before.before.before.before.before.before.before.before.before.before.before.before.before.before.before.before.before.before.before.before.before.before.before.before in
     let put-number = c.put_number-r in
     let put-number2 = c.put_number-t in
     let put-number3 = c.put_number-l in
@@ -127,7 +125,10 @@ returns c = let a = c.args in
     let n4 = c.put_number-m in
     let n5 = c.put_number-first in
     let ps = c.put_positions in
-    record { value = omega (arith, head_bytes a.s a.lost.now, ps.ensures.value, n1.ensures.value, n2.ensures.value, n3.ensures.value, n4.ensures.value, n5.ensures.value); out_after = head_put a.s a.lost.now a.out.now n1.new.out n2.new.out n3.new.out n4.new.out n5.new.out ps.new.out
+    record {
+      value = omega (arith, head_bytes a.s a.lost.now, ps.ensures.value, n1.ensures.value, n2.ensures.value, n3.ensures.value, n4.ensures.value, n5.ensures.value);
+      out_after = head_put a.s a.lost.now a.out.now n1.new.out n2.new.out n3.new.out n4.new.out n5.new.out ps.new.out
           n1.result n2.result n3.result n4.result n5.result
           n1.ensures.value n1.ensures.out_after n2.ensures.value n2.ensures.out_after n3.ensures.value n3.ensures.out_after n4.ensures.value n4.ensures.out_after
-          n5.ensures.value n5.ensures.out_after ps.ensures.out_after }
+          n5.ensures.value n5.ensures.out_after ps.ensures.out_after;
+    }

@@ -12,7 +12,7 @@ pub loop-i-init : goal.loop-i-init
 loop-i-init c = (refl, (refl, refl))
 
 pub overflow_cast-lost : goal.overflow_cast-lost
-overflow_cast-lost c = omega (arith, c.shared_slice_known-in-loop-i-1.given c.loop-i.i)
+overflow_cast-lost c = omega (arith, c.type_inv.lost c.loop-i.i)
 
 pub put_number-at-requires : goal.put_number-at-requires
 put_number-at-requires c =

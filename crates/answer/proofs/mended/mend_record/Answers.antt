@@ -60,8 +60,7 @@ slice_bounds-held-end c =
 pub slice_bounds-copy-end : goal.slice_bounds-copy-end
 slice_bounds-copy-end c =
     let r = c.read_and_mend-a in
-    let a =
-    c.args in
+    let a = c.args in
     sym (length-take-le ((r.result.shape.k + r.result.shape.r) * r.result.shape.l) r.new.held (omega (arith, answer_stripe a.bytes.now r.result r.new.held r.new.list r.ensures c.if-a-ne0.false, ap length c.blank_stripe-held.ensures, blank_long)))
 
 pub slice_bounds-list-end : goal.slice_bounds-list-end

@@ -20,7 +20,7 @@ pub bounds-list-next : goal.bounds-list-next
 bounds-list-next c = omega arith
 
 pub overflow_cast-list-in-loop-i : goal.overflow_cast-list-in-loop-i
-overflow_cast-list-in-loop-i c = omega (arith, c.shared_slice_known-in-loop-i-1.given c.loop-i.i)
+overflow_cast-list-in-loop-i c = omega (arith, c.type_inv.lost c.loop-i.i)
 
 pub bounds-list-next-in-loop-i : goal.bounds-list-next-in-loop-i
 bounds-list-next-in-loop-i c = simp length-set (omega arith)

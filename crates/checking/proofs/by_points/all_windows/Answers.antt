@@ -37,7 +37,7 @@ few : (c : After-shorter-n) → let s = c.args.s in
 few c = window_most _ _ _ c.shorter-n.ensures.0 c.step-most.ensures.1
 
 pub overflow_mul-m : goal.overflow_mul-m
-overflow_mul-m c = omega (arith, few (goal.at.overflow_mul-m c).After-shorter-n)
+overflow_mul-m c = omega (arith, window_most _ _ _ c.shorter-n.ensures.0 c.step-most.ensures.1)
 
 pub slice_bounds-made-end : goal.slice_bounds-made-end
 slice_bounds-made-end c = omega (arith, few c, c.loop-p.invariant.1)

@@ -23,11 +23,10 @@ slice_bounds-fill_columns-end c =
     front_fits _ _ _ (constants_long _ _ c.read_columns.ensures) c.fill_constants.ensures
 
 pub fill_columns-requires : goal.fill_columns-requires
-fill_columns-requires c =
-    (
-      c.requires,
-      front_read _ _ _ (constants_long _ _ c.read_columns.ensures) c.fill_constants.ensures,
-    )
+fill_columns-requires c = (
+  c.requires,
+  front_read _ _ _ (constants_long _ _ c.read_columns.ensures) c.fill_constants.ensures,
+)
 
 pub slice_bounds-w-end-2 : goal.slice_bounds-w-end-2
 slice_bounds-w-end-2 c = constants_most _ _ _ _ c.requires c.read_columns.ensures
@@ -42,8 +41,7 @@ slice_bounds-fill_columns-end-2 c =
     front_fits _ _ _ (constants_long _ _ c.read_columns.ensures) c.fill_constants-2.ensures
 
 pub fill_columns-requires-2 : goal.fill_columns-requires-2
-fill_columns-requires-2 c =
-    (
-      c.requires,
-      front_read _ _ _ (constants_long _ _ c.read_columns.ensures) c.fill_constants-2.ensures,
-    )
+fill_columns-requires-2 c = (
+  c.requires,
+  front_read _ _ _ (constants_long _ _ c.read_columns.ensures) c.fill_constants-2.ensures,
+)

@@ -20,12 +20,11 @@ overflow_mul-all c =
     fits _ (omega (arith, mul-le-mul {n₂ = most_rows} (new_few c.args.s c.args.f c.requires.0.shape c.requires.0.new c.requires.0.rows) r))
 
 pub loop-i-init : goal.loop-i-init
-loop-i-init c =
-    (
-      search rules,
-      take_start c.args.s c.args.f c.requires.0 c.args.first c.args.d.now c.args.rows.now c.args.parity.now c.requires.1.1.0
-          c.requires.1.1.1,
-    )
+loop-i-init c = (
+  search rules,
+  take_start c.args.s c.args.f c.requires.0 c.args.first c.args.d.now c.args.rows.now c.args.parity.now c.requires.1.1.0
+      c.requires.1.1.1,
+)
 
 pub overflow_mul-a : goal.overflow_mul-a
 overflow_mul-a c =

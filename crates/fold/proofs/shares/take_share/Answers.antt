@@ -6,38 +6,36 @@ use Rattle.fold.proofs.shares.take_share.Goals as goal
 
 pub take_bytes-requires : goal.take_bytes-requires
 take_bytes-requires c =
-    read_in _ c.args.d.now c.args.rows.now c.args.acc.now c.requires _ c.share-1.given.1
+    read_in _ c.args.d.now c.args.rows.now c.args.acc.now c.requires _ c.in-Read.is
 
 pub take_bytes-requires-in-Row : goal.take_bytes-requires-in-Row
 take_bytes-requires-in-Row c =
-    row_in _ c.args.d.now c.args.rows.now c.args.acc.now c.requires _ c.share-in-Row-1.given.1
+    row_in _ c.args.d.now c.args.rows.now c.args.acc.now c.requires _ c.in-Row.is
 
 pub overflow_add-to : goal.overflow_add-to
 overflow_add-to c =
-    fits _ (omega (arith, (both_in _ c.args.d.now c.args.rows.now c.args.acc.now c.requires _ _ c.share-in-Both-1.given.1).1))
+    fits _ (omega (arith, (both_in _ c.args.d.now c.args.rows.now c.args.acc.now c.requires _ _ c.in-Both.is).1))
 
 pub take_bytes-requires-in-Both : goal.take_bytes-requires-in-Both
 take_bytes-requires-in-Both c =
-    (both_in _ c.args.d.now c.args.rows.now c.args.acc.now c.requires _ _ c.share-in-Both-1.given.1).0
+    (both_in _ c.args.d.now c.args.rows.now c.args.acc.now c.requires _ _ c.in-Both.is).0
 
 pub slice_bounds-add-end : goal.slice_bounds-add-end
 slice_bounds-add-end c =
     omega (
       arith,
       (both_in _ c.args.d.now c.args.rows.now c.args.acc.now c.requires _ _
-          c.share-in-Both-1.given.1).1,
+          c.in-Both.is).1,
     )
 
 pub returns-in-Read : goal.returns-in-Read
 returns-in-Read c =
-    read_done _ _ _ _ c.requires _ _ _ _ c.share-1.given.1 c.take_bytes.ensures
+    read_done _ _ _ _ c.requires _ _ _ _ c.in-Read.is c.take_bytes.ensures
 
 pub returns-in-Row : goal.returns-in-Row
 returns-in-Row c =
-    row_done _ _ _ _ c.requires _ _ _ _ c.share-in-Row-1.given.1 c.take_bytes-in-Row.ensures
+    row_done _ _ _ _ c.requires _ _ _ _ c.in-Row.is c.take_bytes-in-Row.ensures
 
 pub returns-in-Both : goal.returns-in-Both
 returns-in-Both c =
-    let share3 = c.share-in-Both-1 in
-    let take-bytes3 = c.take_bytes-in-Both in
-    both_done _ _ _ _ c.requires _ _ _ _ _ _ share3.given.1 take-bytes3.ensures c.add.ensures
+    both_done _ _ _ _ c.requires _ _ _ _ _ _ c.in-Both.is c.take_bytes-in-Both.ensures c.add.ensures

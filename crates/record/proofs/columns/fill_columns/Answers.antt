@@ -1,15 +1,14 @@
 -- `fill_columns` meets its contract: restoring the columns left behind what is restored gives the whole stripe.
 use Prim.Native.Nat.{ℕ, ◌+◌, ◌≤◌}
 use mathlib.Core.Path.{refl, sym, ap, ◌∙◌}
-use mathlib.Core.Logic.{inl, inr, ⊎_elim}
+use mathlib.Core.Logic.{inl, inr}
 use native.Mathlib.Omega.{arith}
 use lib.ListN.{length, take, drop}
-use borrow.Author.Tests.{not-true, not-false}
 use Rattle.record.specs.Layout.{restored}
 use Rattle.record.proofs.Survivors.{copied, Passed, passed_length, restore_turn, restore_done, all_left}
 use Rattle.record.proofs.Survivors.{walk_start, walk_column, walk_survivor, walk_turn}
 use Rattle.record.proofs.columns.fill_columns.Goals as goal
-use Rattle.record.proofs.columns.fill_columns.Goals.{Joined-not-is_lost, Then-not-is_lost}
+use Rattle.record.proofs.columns.fill_columns.Goals.{Joined-not-is_lost, Then-not-is_lost, then-not-is_lost, else-not-is_lost}
 
 pub loop-c-init : goal.loop-c-init
 loop-c-init c =
@@ -53,14 +52,14 @@ passed : (c : Joined-not-is_lost)
 passed c =
     let v = c.loop-c in
     let t = c.loop-c-test.true in
-    ⊎_elim
-    (λ w.
-    let k = sym c.is_lost.ensures ∙ not-true _ w.0.taken in
-    let room = walk_survivor v.invariant.1.0 t k in
-    let is = copied v.stripe _ _ v.to v.at _ (omega (arith, walk_column v.invariant.1.0 t, v.invariant.0)) room w.3.ensures in
-    inr (k, (w.7, w.6 ∙ is)))
-    (λ w. inl (sym c.is_lost.ensures ∙ not-false _ w.0.left, (w.2, w.1)))
-    c.if-not-is_lost.branch
+    elim c.if-not-is_lost.branch [
+      | then-not-is_lost w ↦
+          let k = sym w.if-not-is_lost.ensures in
+          let room = walk_survivor v.invariant.1.0 t k in
+          let is = copied v.stripe _ _ v.to v.at _ (omega (arith, walk_column v.invariant.1.0 t, v.invariant.0)) room w.copy.ensures in
+          inr (k, (w.at-is, w.stripe-is ∙ is))
+      | else-not-is_lost w ↦ inl (sym w.if-not-is_lost.ensures, (w.at-is, w.stripe-is))
+    ]
 
 pub loop-c-preserved : goal.loop-c-preserved
 loop-c-preserved c =

@@ -47,13 +47,19 @@ pub fill_columns-requires : goal.fill_columns-requires
 fill_columns-requires c = let fill-lost = c.fill_lost in
     let a = c.args in
     let p = c.requires in
-    record { l_in_bounds = omega (arith, fill_stripe_short a.bytes.now a.shape a.m a.first a.end p.end_value); l_in_bounds_2 = fill_bytes a.bytes.now a.shape a.m a.first a.end p.end_value _
-          (fill_front a.bytes.now a.shape a.m a.first a.end p.end_value a.lost.now fill-lost.new.lost fill-lost.ensures) }
+    record {
+      l_in_bounds = omega (arith, fill_stripe_short a.bytes.now a.shape a.m a.first a.end p.end_value);
+      l_in_bounds_2 = fill_bytes a.bytes.now a.shape a.m a.first a.end p.end_value _
+          (fill_front a.bytes.now a.shape a.m a.first a.end p.end_value a.lost.now fill-lost.new.lost fill-lost.ensures);
+    }
 
 pub returns : goal.returns
 returns c = let a = c.args in
     let p = c.requires in
     let l = c.fill_lost in
-    record { stripe_after = fill_columns_is a.bytes.now a.shape a.m a.first a.end p.end_value _ a.stripe.now _
+    record {
+      stripe_after = fill_columns_is a.bytes.now a.shape a.m a.first a.end p.end_value _ a.stripe.now _
           (fill_front a.bytes.now a.shape a.m a.first a.end p.end_value a.lost.now l.new.lost l.ensures)
-          c.fill_columns.ensures; lost_after = fill_positions_is a.bytes.now a.shape a.m a.first a.end p.end_value a.lost.now l.new.lost l.ensures }
+          c.fill_columns.ensures;
+      lost_after = fill_positions_is a.bytes.now a.shape a.m a.first a.end p.end_value a.lost.now l.new.lost l.ensures;
+    }

@@ -51,8 +51,8 @@ overflow_mul-n c =
     let vm = value_of_lem.ensures in
     let vf = c.next_of-first.ensures in
     let few : value_of a.g ≤ columns a.shape = omega (arith, vm, c.if-n-m.false) in
-    let ls = c.judge_positions-listed.ensures ∙ ap₂ (λ (p q : ℕ). listed_of s (columns a.shape) p q) vm vf in
-    let up = listed_upto s (columns a.shape) (value_of a.g) (next_of a.g) _ (sym c.listed-in-Upto-1.given.1 ∙ ls) in
+    let ls = ap₂ (λ (p q : ℕ). listed_of s (columns a.shape) p q) vm vf in
+    let up = listed_upto s (columns a.shape) (value_of a.g) (next_of a.g) _ (c.in-Upto.ensures ∙ ls) in
     omega (arith, d.1, mul-le-mul_right {m = columns a.shape - value_of_lem.result} {n = columns a.shape} a.shape.l (omega arith))
 
 pub returns-then-no-ne0 : goal.returns-then-no-ne0
@@ -60,7 +60,6 @@ returns-then-no-ne0 c =
     let number-refusal = c.number_refusal-no_m in
     let if1 = c.if-no_m-ne0 in
     let if2 = c.if-n-m in
-    let judge-positions = c.judge_positions-listed in
     let columns-refusal = c.columns_refusal-no in
     let a = c.args in
     let s = a.s.now in
@@ -69,8 +68,8 @@ returns-then-no-ne0 c =
     let vm = c.value_of-m.ensures in
     let vf = c.next_of-first.ensures in
     let few : value_of a.g ≤ columns a.shape = omega (arith, vm, if2.false) in
-    let ls = judge-positions.ensures ∙ ap₂ (λ (p q : ℕ). listed_of s (columns a.shape) p q) vm vf in
-    let up = listed_upto s (columns a.shape) (value_of a.g) (next_of a.g) _ (sym c.listed-in-Upto-1.given.1 ∙ ls) in
+    let ls = ap₂ (λ (p q : ℕ). listed_of s (columns a.shape) p q) vm vf in
+    let up = listed_upto s (columns a.shape) (value_of a.g) (next_of a.g) _ (c.in-Upto.ensures ∙ ls) in
     let cr = columns-refusal.ensures
     ∙ ap₂ (λ (p q : ℕ). columns_refusal p ((columns a.shape - q) * a.shape.l))
     (c.bytes_after.ensures ∙ ap (λ (e : ℕ). length s - e) up.1) vm in
@@ -87,8 +86,8 @@ returns-in-Unlisted c =
     let vm = c.value_of-m.ensures in
     let vf = c.next_of-first.ensures in
     let few : value_of a.g ≤ columns a.shape = omega (arith, vm, c.if-n-m.false) in
-    let ls = c.judge_positions-listed.ensures ∙ ap₂ (λ (p q : ℕ). listed_of s (columns a.shape) p q) vm vf in
-    let nl = listed_not s (columns a.shape) (value_of a.g) (next_of a.g) _ (sym c.listed-1.given.1 ∙ ls) in
+    let ls = ap₂ (λ (p q : ℕ). listed_of s (columns a.shape) p q) vm vf in
+    let nl = listed_not s (columns a.shape) (value_of a.g) (next_of a.g) _ (c.in-Unlisted.ensures ∙ ls) in
     refused_rest s a.shape a.g _ (rest_positions s a.shape a.g one few _ nl.0 nl.1) nl.1
 
 pub returns-else-no-ne0 : goal.returns-else-no-ne0
@@ -96,7 +95,6 @@ returns-else-no-ne0 c =
     let number-refusal = c.number_refusal-no_m in
     let if1 = c.if-no_m-ne0 in
     let if2 = c.if-n-m in
-    let judge-positions = c.judge_positions-listed in
     let a = c.args in
     let s = a.s.now in
     let one = sym number-refusal.ensures ∙ if1.false in
@@ -104,8 +102,8 @@ returns-else-no-ne0 c =
     let vm = c.value_of-m.ensures in
     let vf = c.next_of-first.ensures in
     let few : value_of a.g ≤ columns a.shape = omega (arith, vm, if2.false) in
-    let ls = judge-positions.ensures ∙ ap₂ (λ (p q : ℕ). listed_of s (columns a.shape) p q) vm vf in
-    let up = listed_upto s (columns a.shape) (value_of a.g) (next_of a.g) _ (sym c.listed-in-Upto-1.given.1 ∙ ls) in
+    let ls = ap₂ (λ (p q : ℕ). listed_of s (columns a.shape) p q) vm vf in
+    let up = listed_upto s (columns a.shape) (value_of a.g) (next_of a.g) _ (c.in-Upto.ensures ∙ ls) in
     let cr = c.columns_refusal-no.ensures
     ∙ ap₂ (λ (p q : ℕ). columns_refusal p ((columns a.shape - q) * a.shape.l))
     (c.bytes_after.ensures ∙ ap (λ (e : ℕ). length s - e) up.1) vm in

@@ -27,12 +27,12 @@ pub returns-then-no_t-ne0 : goal.returns-then-no_t-ne0
 returns-then-no_t-ne0 c =
     let number-refusal = c.number_refusal-no_k in
     let if1 = c.if-no_k-ne0 in
-    let next_of = c.next_of in
+    let next_of1 = c.next_of in
     let read-number2 = c.read_number-r in
     let number-refusal3 = c.number_refusal-no_t in
     let s = c.args.s.now in
     let n1 = c.read_number-k.ensures in
-    let n2 = read-number2.ensures ∙ ap (number_at s) (next_of.ensures ∙ ap next_of n1) in
+    let n2 = read-number2.ensures ∙ ap (number_at s) (next_of1.ensures ∙ ap next_of n1) in
     let n3 = c.read_number-t.ensures ∙ ap (number_at s) (c.next_of-2.ensures ∙ ap next_of n2) in
     unshaped s number-refusal3.result (head_third s (sym (number-refusal.ensures ∙ ap number_refusal n1) ∙ if1.false)
     (sym (c.number_refusal-no_r.ensures ∙ ap number_refusal n2) ∙ c.if-no_r-ne0.false)
@@ -42,7 +42,7 @@ pub returns-then-no_l-ne0 : goal.returns-then-no_l-ne0
 returns-then-no_l-ne0 c =
     let number-refusal = c.number_refusal-no_k in
     let if1 = c.if-no_k-ne0 in
-    let next_of = c.next_of in
+    let next_of1 = c.next_of in
     let read-number2 = c.read_number-r in
     let number-refusal2 = c.number_refusal-no_r in
     let if2 = c.if-no_r-ne0 in
@@ -51,7 +51,7 @@ returns-then-no_l-ne0 c =
     let number-refusal4 = c.number_refusal-no_l in
     let s = c.args.s.now in
     let n1 = c.read_number-k.ensures in
-    let n2 = read-number2.ensures ∙ ap (number_at s) (next_of.ensures ∙ ap next_of n1) in
+    let n2 = read-number2.ensures ∙ ap (number_at s) (next_of1.ensures ∙ ap next_of n1) in
     let n3 = read-number3.ensures ∙ ap (number_at s) (next-of2.ensures ∙ ap next_of n2) in
     let n4 = c.read_number-l.ensures ∙ ap (number_at s) (c.next_of-3.ensures ∙ ap next_of n3) in
     unshaped s number-refusal4.result (head_fourth s (sym (number-refusal.ensures ∙ ap number_refusal n1) ∙ if1.false)
@@ -63,7 +63,7 @@ pub returns-then-no-ne0 : goal.returns-then-no-ne0
 returns-then-no-ne0 c =
     let number-refusal = c.number_refusal-no_k in
     let if1 = c.if-no_k-ne0 in
-    let next_of = c.next_of in
+    let next_of1 = c.next_of in
     let read-number2 = c.read_number-r in
     let number-refusal2 = c.number_refusal-no_r in
     let if2 = c.if-no_r-ne0 in
@@ -79,7 +79,7 @@ returns-then-no-ne0 c =
     let stripe-refusal = c.stripe_refusal-no in
     let s = c.args.s.now in
     let n1 = c.read_number-k.ensures in
-    let n2 = read-number2.ensures ∙ ap (number_at s) (next_of.ensures ∙ ap next_of n1) in
+    let n2 = read-number2.ensures ∙ ap (number_at s) (next_of1.ensures ∙ ap next_of n1) in
     let n3 = read-number3.ensures ∙ ap (number_at s) (next-of2.ensures ∙ ap next_of n2) in
     let n4 = read-number4.ensures ∙ ap (number_at s) (next-of3.ensures ∙ ap next_of n3) in
     let v = shape_is new.result _ _ _ _ (new.ensures.0 ∙ c.value_of.ensures ∙ ap value_of n1)
@@ -95,7 +95,7 @@ pub returns : goal.returns
 returns c =
     let number-refusal = c.number_refusal-no_k in
     let if1 = c.if-no_k-ne0 in
-    let next_of = c.next_of in
+    let next_of1 = c.next_of in
     let read-number2 = c.read_number-r in
     let number-refusal2 = c.number_refusal-no_r in
     let if2 = c.if-no_r-ne0 in
@@ -112,7 +112,7 @@ returns c =
     let new = c.new-shape in
     let s = c.args.s.now in
     let n1 = c.read_number-k.ensures in
-    let n2 = read-number2.ensures ∙ ap (number_at s) (next_of.ensures ∙ ap next_of n1) in
+    let n2 = read-number2.ensures ∙ ap (number_at s) (next_of1.ensures ∙ ap next_of n1) in
     let n3 = read-number3.ensures ∙ ap (number_at s) (next-of2.ensures ∙ ap next_of n2) in
     let n4 = read-number4.ensures ∙ ap (number_at s) (next-of3.ensures ∙ ap next_of n3) in
     let v = shape_is new.result _ _ _ _ (new.ensures.0 ∙ value_of_lem.ensures ∙ ap value_of n1) (new.ensures.1.0 ∙ value-of2.ensures ∙ ap value_of n2)

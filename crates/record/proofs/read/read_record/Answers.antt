@@ -34,7 +34,7 @@ returns-then-lost-ne258 c = let a = c.args in
 
 pub fill-requires : goal.fill-requires
 fill-requires c = let if2 = c.if-stripe-ne65536 in
-    record { end_value = sym c.verdict-in-Lawful-1.given.1 ∙ c.judge-verdict.ensures; stripe_len = (if2.false, c.if-lost-ne258.false) }
+    record { end_value = c.in-Lawful.ensures; stripe_len = (if2.false, c.if-lost-ne258.false) }
 
 pub returns-in-Refused : goal.returns-in-Refused
 returns-in-Refused c = let if1 = c.if-bytes-gt65536 in
@@ -42,7 +42,7 @@ returns-in-Refused c = let if1 = c.if-bytes-gt65536 in
     let s = a.bytes.now in
     let x = length a.stripe.now in
     let y = length a.lost.now in
-    let n = refused_says s _ (sym c.verdict-1.given.1 ∙ c.judge-verdict.ensures) in
+    let n = refused_says s _ c.in-Refused.ensures in
     let both = read_refused s a.stripe.now a.lost.now _ c.refused-in-Refused.result c.refused-in-Refused.ensures
     (n.0
     ∙ read_content s x y if1.false c.if-stripe-ne65536.false c.if-lost-ne258.false)
@@ -53,15 +53,12 @@ pub returns-in-Lawful : goal.returns-in-Lawful
 returns-in-Lawful c = let if1 = c.if-bytes-gt65536 in
     let if2 = c.if-stripe-ne65536 in
     let if3 = c.if-lost-ne258 in
-    let judge = c.judge-verdict in
-    let verdict2 = c.verdict-in
-    let both = -Lawful-1 in
     let a = c.args in
     let s = a.bytes.now in
     let x = length a.stripe.now in
     let y = length a.lost.now in
-    let w = sym verdict2.given.1 ∙ judge.ensures in
+    let w = c.in-Lawful.ensures in
     let f = c.fill.ensures in
-    read_accepted s a.stripe.now a.lost.now _ _ _ (sym (read_content s x y if1.false if2.false if3.false) ∙ (lawful_says s _ _ _ _ w).0)
+    let both = read_accepted s a.stripe.now a.lost.now _ _ _ (sym (read_content s x y if1.false if2.false if3.false) ∙ (lawful_says s _ _ _ _ w).0)
     (fill_got s _ _ _ _ w) f.stripe_after f.lost_after in
     record { value = both.0; stripe_after = both.1.0; lost_after = both.1.1 }

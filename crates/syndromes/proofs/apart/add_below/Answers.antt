@@ -1,10 +1,10 @@
 -- `add_below` meets its contract: at the places below b the rows are as they are to be, and whole blocks are left.
 use Prim.Native.Nat.{◌+◌, ◌≤◌}
 use mathlib.Core.Path.{refl, sym, ◌∙◌}
-use mathlib.Core.Logic.{⊎_elim}
 use native.Mathlib.Omega.{arith}
 use Rattle.syndromes.proofs.Upwards.{places_at, rows_by}
 use Rattle.syndromes.proofs.apart.add_below.Goals as goal
+use Rattle.syndromes.proofs.apart.add_below.Goals.{then-b-gt0, else-b-gt0}
 
 pub add_rows-requires : goal.add_rows-requires
 add_rows-requires c =
@@ -21,7 +21,7 @@ loop-b-init c =
     let h = c.requires in (
       omega arith,
       omega arith,
-      ⊎_elim (λ w. rows_by (omega arith) w.9 w.6.ensures) (λ w. rows_by (omega (arith, w.0.left)) w.1 h.1) c.if-b-gt0.branch,
+      elim c.if-b-gt0.branch [ then-b-gt0 w ↦ rows_by (omega arith) w.out-is w.add_row2.ensures | else-b-gt0 w ↦ rows_by (omega (arith, w.if-b-gt0.false)) w.out-is h.1 ],
     )
 
 pub add_rows-requires-in-loop-b : goal.add_rows-requires-in-loop-b

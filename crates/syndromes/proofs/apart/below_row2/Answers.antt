@@ -26,7 +26,11 @@ within c =
     column_within _ a.k a.l 3 a.x a.from at.i at.o c.requires c.loop-i-test.true at.invariant.1
 
 pub overflow_add-e : goal.overflow_add-e
-overflow_add-e c = omega (arith, (within (goal.at.overflow_add-e c).In-loop-i).0)
+overflow_add-e c =
+    let a = c.args in
+    let at = c.loop-i in
+    let inside = column_within _ a.k a.l 3 a.x a.from at.i at.o c.requires c.loop-i-test.true at.invariant.1 in
+    omega (arith, inside.0)
 
 pub slice_bounds-quarter_add-end-in-loop-i : goal.slice_bounds-quarter_add-end-in-loop-i
 slice_bounds-quarter_add-end-in-loop-i c = omega (arith, (within (goal.at.slice_bounds-quarter_add-end-in-loop-i c).In-loop-i).0)

@@ -51,8 +51,6 @@ put_number-d-requires c =
 pub put_number-requires : goal.put_number-requires
 unfolding first_line
 put_number-requires c =
-    let s =
-    c.before.before.before.before.before.before.before.before.before.before.before.before.before.before.before.before.before.before.before in
     let v1 = c.put_word-a in
     let v2 = c.put_number-b in
     let v3 = c.put_number-c in
@@ -65,10 +63,8 @@ put_number-requires c =
 
 pub returns : goal.returns
 unfolding first_line
-returns c = let s =
-    c.before.before.before.before.before.before.before.before.before.before.before.before.before.before.before.before.before.before.before.before.before.before in
-    let v1 =
-    c.put_word-a in
+returns c =
+    let v1 = c.put_word-a in
     let v2 = c.put_number-b in
     let v3 = c.put_number-c in
     let v4 = c.put_number-d in

@@ -59,5 +59,8 @@ loop-c-preserved c =
 
 pub returns : goal.returns
 returns c = let e : c.loop-c.c ≡ c.args.n = omega arith in
-    record { value = c.loop-c.invariant.1.1.0 ∙ ap (λ (k : ℕ). c.args.at + length (column_lines c.args.l c.args.lost.now 0 k c.args.stripe.now)) e; out_after = c.loop-c.invariant.1.1.1.1
-          ∙ ap (λ (k : ℕ). over c.args.out.now c.args.at (column_lines c.args.l c.args.lost.now 0 k c.args.stripe.now)) e }
+    record {
+      value = c.loop-c.invariant.1.1.0 ∙ ap (λ (k : ℕ). c.args.at + length (column_lines c.args.l c.args.lost.now 0 k c.args.stripe.now)) e;
+      out_after = c.loop-c.invariant.1.1.1.1
+          ∙ ap (λ (k : ℕ). over c.args.out.now c.args.at (column_lines c.args.l c.args.lost.now 0 k c.args.stripe.now)) e;
+    }

@@ -29,6 +29,9 @@ returns c = let b = c.args.b in
     ap (λ (d : ℕ). over c.args.out.now c.args.at (d ∷ [])) c.hex_digit.ensures in
     let mid = c.put_byte-next in
     let low = ap (λ (d : ℕ). over mid.new.out mid.result (d ∷ [])) c.hex_digit-2.ensures in
-    record { value = omega arith; out_after = over_on c.args.out.now _ _ c.args.at _ (hex_digit (b / 16) ∷ []) (hex_digit (b % 16) ∷ []) (first.out_after ∙ high) first.value
+    record {
+      value = omega arith;
+      out_after = over_on c.args.out.now _ _ c.args.at _ (hex_digit (b / 16) ∷ []) (hex_digit (b % 16) ∷ []) (first.out_after ∙ high) first.value
           (second.out_after ∙ low) (omega (arith, c.requires))
-          ∙ ap (over c.args.out.now c.args.at) (sym (hex-one b)) }
+          ∙ ap (over c.args.out.now c.args.at) (sym (hex-one b));
+    }

@@ -1,16 +1,15 @@
 -- `put_columns` meets its contract: storing the surviving columns left over what is stored gives all of them.
 use Prim.Native.Nat.{ℕ, ◌+◌, ◌≤◌}
 use mathlib.Core.Path.{refl, sym, ap, ◌∙◌}
-use mathlib.Core.Logic.{inl, inr, ⊎_elim}
+use mathlib.Core.Logic.{inl, inr}
 use native.Mathlib.Omega.{arith}
 use lib.ListN.{length, take, drop}
 use lib.Seq.{sets}
-use borrow.Author.Tests.{not-true, not-false}
 use Rattle.record.specs.Layout.{survivors}
 use Rattle.record.proofs.Survivors.{copied, Passed, passed_length, all_left, walk_start, walk_column, walk_survivor, walk_turn}
 use Rattle.writing.proofs.Surviving.{survive_turn, survive_done}
 use Rattle.writing.proofs.columns.put_columns.Goals as goal
-use Rattle.writing.proofs.columns.put_columns.Goals.{Joined-not-is_lost, Then-not-is_lost}
+use Rattle.writing.proofs.columns.put_columns.Goals.{Joined-not-is_lost, Then-not-is_lost, then-not-is_lost, else-not-is_lost}
 
 pub loop-c-init : goal.loop-c-init
 loop-c-init c =
@@ -53,14 +52,14 @@ passed : (c : Joined-not-is_lost)
 passed c =
     let v = c.loop-c in
     let t = c.loop-c-test.true in
-    ⊎_elim
-    (λ w.
-    let k = sym c.is_lost.ensures ∙ not-true _ w.0.taken in
-    let room = walk_column v.invariant.1.0 t in
-    let is = copied v.out _ _ v.at v.from _ (omega (arith, walk_survivor v.invariant.1.0 t k, v.invariant.0)) room w.3.ensures in
-    inr (k, (w.7, w.6 ∙ is)))
-    (λ w. inl (sym c.is_lost.ensures ∙ not-false _ w.0.left, (w.2, w.1)))
-    c.if-not-is_lost.branch
+    elim c.if-not-is_lost.branch [
+      | then-not-is_lost w ↦
+          let k = sym w.if-not-is_lost.ensures in
+          let room = walk_column v.invariant.1.0 t in
+          let is = copied v.out _ _ v.at v.from _ (omega (arith, walk_survivor v.invariant.1.0 t k, v.invariant.0)) room w.copy.ensures in
+          inr (k, (w.at-is, w.out-is ∙ is))
+      | else-not-is_lost w ↦ inl (sym w.if-not-is_lost.ensures, (w.at-is, w.out-is))
+    ]
 
 pub loop-c-preserved : goal.loop-c-preserved
 loop-c-preserved c =

@@ -1,0 +1,5 @@
+-- A digit fewer is left at each call.
+use Rattle.text.proofs.put.+put_digits.Given as goal
+
+abbrev pub decreases-put_digits : goal.decreases-put_digits
+decreases-put_digits l = l.m

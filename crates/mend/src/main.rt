@@ -2,7 +2,10 @@
 // Where reading or writing fails a line on standard error says so.
 #![tactic(auto)]
 
-ghost use Rattle.std.specs.Prelude.{◌≡◌, length};
+ghost use Rattle.std.specs.Prelude.{◌≡◌, ◌≤◌, length};
+
+use std::io::{Cursor, Read, Write};
+use std::{io, str};
 
 // Room for any text.
 fn room() -> [u8; 140000]
@@ -11,29 +14,60 @@ fn room() -> [u8; 140000]
     [0; 140000]
 }
 
-// Whether the input had ended where reading stopped, or goes on; else reading failed, which is said.
-fn could_read() -> bool {
-    let mut next = [0u8; 1];
-    if libc::read(0, &mut next) < 0 {
-        os::fail(b"standard input");
-        return false;
+// Says on standard error what failed and why, in the system's words alone, without the number that std puts behind them.
+fn fail(rt: &impl Eprint, what: &str, error: &io::Error) {
+    let mut text = Cursor::new([0u8; 160]);
+    let _ = write!(text, "{error}");
+    let bytes = text.into_inner();
+    let words = str::from_utf8(&bytes).unwrap_or("");
+    let why = match words.split_once(" (os error ") {
+        Some((why, _)) => why,
+        None => words.trim_end_matches('\0'),
+    };
+    let _ = eprintln!(rt; "{what}: {why}");
+}
+
+// Reads until the buffer is full, the input ends or a read fails, and answers how many bytes it put at the front.
+fn read_full(input: &mut impl Read, buf: &mut [u8]) -> usize
+    ensures { result ≤ length buf.new }
+{
+    let mut done = 0;
+    while done < buf.len() {
+        let n = input.read(&mut buf[done..]).unwrap_or(0);
+        if n == 0 {
+            break;
+        }
+        done += n;
     }
-    true
+    done
+}
+
+// Whether the input had ended where reading stopped, or goes on; else reading failed, which is said.
+fn could_read(rt: &impl Eprint, input: &mut impl Read) -> bool {
+    let mut next = [0u8; 1];
+    match input.read(&mut next) {
+        Ok(_) => true,
+        Err(error) => {
+            fail(rt, "standard input", &error);
+            false
+        }
+    }
 }
 
 // The text of a record.
-fn print(bytes: &[u8]) {
+fn print(rt: &(impl Print + Eprint), bytes: &[u8]) {
     let mut out = room();
     let m = answer::answer(bytes, &mut out);
-    if !io::write_all(1, &out[..m]) {
-        os::fail(b"standard output");
+    if let Err(error) = rt.write_all(&out[..m]) {
+        fail(rt, "standard output", &error);
     }
 }
 
-fn main() {
+fn main(rt: HostRuntime) {
     let mut bytes = [0u8; 65537];
-    let n = io::read_full(0, &mut bytes);
-    if could_read() {
-        print(&bytes[..n]);
+    let mut input = rt.stdin();
+    let n = read_full(&mut input, &mut bytes);
+    if could_read(&rt, &mut input) {
+        print(&rt, &bytes[..n]);
     }
 }

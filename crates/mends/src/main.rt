@@ -2,7 +2,12 @@
 // Where a file can't be opened or read, or the text not be written, a line on standard error says which and why.
 #![tactic(auto)]
 
-ghost use Rattle.std.specs.Prelude.{◌≡◌, length};
+ghost use Rattle.std.specs.Prelude.{◌≡◌, ◌≤◌, length};
+
+use std::env::FillError;
+use std::io::{Cursor, Read, Write};
+use std::rt::{Env, Files};
+use std::{fs, io, str};
 
 // Room for any text.
 fn room() -> [u8; 140000]
@@ -11,56 +16,96 @@ fn room() -> [u8; 140000]
     [0; 140000]
 }
 
+// Says on standard error what failed and why, in the system's words alone, without the number that std puts behind them.
+fn fail(rt: &impl Eprint, what: &str, error: &io::Error) {
+    let mut text = Cursor::new([0u8; 160]);
+    let _ = write!(text, "{error}");
+    let bytes = text.into_inner();
+    let words = str::from_utf8(&bytes).unwrap_or("");
+    let why = match words.split_once(" (os error ") {
+        Some((why, _)) => why,
+        None => words.trim_end_matches('\0'),
+    };
+    let _ = eprintln!(rt; "{what}: {why}");
+}
+
+// Reads until the buffer is full, the file ends or a read fails, and answers how many bytes it put at the front.
+fn read_full(file: &mut impl Read, buf: &mut [u8]) -> usize
+    ensures { result ≤ length buf.new }
+{
+    let mut done = 0;
+    while done < buf.len() {
+        let n = file.read(&mut buf[done..]).unwrap_or(0);
+        if n == 0 {
+            break;
+        }
+        done += n;
+    }
+    done
+}
+
 // Whether the file had ended where reading stopped, or goes on; else reading failed, which is said.
-fn could_read(fd: i32, path: &[u8]) -> bool {
+fn could_read(rt: &impl Eprint, file: &mut impl Read, path: &str) -> bool {
     let mut next = [0u8; 1];
-    if libc::read(fd, &mut next) < 0 {
-        os::fail(path);
-        return false;
+    match file.read(&mut next) {
+        Ok(_) => true,
+        Err(error) => {
+            fail(rt, path, &error);
+            false
+        }
+    }
+}
+
+// The text of a record.
+fn print(rt: &(impl Print + Eprint), bytes: &[u8]) {
+    let mut out = room();
+    let m = answer::answer(bytes, &mut out);
+    if let Err(error) = rt.write_all(&out[..m]) {
+        fail(rt, "standard output", &error);
+    }
+}
+
+// The text of the record in a file. A path that is not UTF-8 is not opened, since std opens none.
+fn one(rt: &(impl Files + Print + Eprint), path: &[u8]) {
+    let Ok(path) = str::from_utf8(path) else {
+        let _ = eprintln!(rt; "{}: the name is not UTF-8", path.escape_ascii());
+        return;
+    };
+    let mut file = match fs::open(rt, path) {
+        Ok(file) => file,
+        Err(error) => {
+            fail(rt, path, &error);
+            return;
+        }
+    };
+    let mut bytes = [0u8; 65537];
+    let n = read_full(&mut file, &mut bytes);
+    let readable = could_read(rt, &mut file, path);
+    drop(file);
+    if readable {
+        print(rt, &bytes[..n]);
+    }
+}
+
+// The text of the record in the file that an argument names, and whether there is such an argument. One that is too long for any path
+// is taken as empty.
+fn nth(rt: &(impl Env + Files + Print + Eprint), i: usize) -> bool {
+    let mut path = [0u8; 4096];
+    match rt.arg(i, &mut path) {
+        Ok(length) => one(rt, &path[..length]),
+        Err(FillError::TooLong) => one(rt, b""),
+        Err(FillError::NotPresent) => return false,
     }
     true
 }
 
-// The text of a record.
-fn print(bytes: &[u8]) {
-    let mut out = room();
-    let m = answer::answer(bytes, &mut out);
-    if !io::write_all(1, &out[..m]) {
-        os::fail(b"standard output");
+fn main(rt: HostRuntime) {
+    if !nth(&rt, 1) {
+        let _ = eprintln!(rt; "usage: mends FILE ..");
     }
-}
-
-// The text of the record in a file.
-fn one(path: &[u8]) {
-    let fd = os::open_read(path);
-    if fd < 0 {
-        os::fail(path);
-        return;
-    }
-    let mut bytes = [0u8; 65537];
-    let n = io::read_full(fd, &mut bytes);
-    let readable = could_read(fd, path);
-    libc::close(fd);
-    if readable {
-        print(&bytes[..n]);
-    }
-}
-
-// The text of the record in the file that an argument names.
-fn nth(i: usize) {
-    let mut path = io::buffer();
-    let length = os::arg(i, &mut path);
-    one(&path[..length]);
-}
-
-fn main() {
-    let n = os::arg_count();
-    if n < 2 {
-        io::write_all(2, b"usage: mends FILE ..\n");
-    }
-    let mut i = 1;
-    while i < n {
-        nth(i);
-        i += 1;
+    for i in 2..usize::MAX {
+        if !nth(&rt, i) {
+            break;
+        }
     }
 }

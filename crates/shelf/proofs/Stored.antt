@@ -3,6 +3,7 @@ use Prim.Native.Nat.{ℕ, ◌+◌, ◌≤◌, ◌<◌}
 use mathlib.Core.Path.{◌≡◌, refl, sym, ap, subst, ◌∙◌}
 use mathlib.Core.List.{List, [], ◌∷◌}
 use mathlib.Core.Bool.{Bool, true, false, cond}
+use mathlib.Core.Logic.{◌⊎◌, inl, inr}
 use native.Mathlib.Omega.{arith}
 use native.Mathlib.Numerals.{add-one}
 use lib.ListN.{length, set, get_or, take}
@@ -10,11 +11,15 @@ use lib.Seq.{take-suc, take-length, length-take-le}
 use lib.Dec.{ltb, eqb}
 use borrow.Author.Tests.{ltb-false}
 use Rattle.field.specs.Bytes.{over}
+use Rattle.field.proofs.Cases.{zero_or_not}
 use Rattle.field.proofs.Over.{over-length, over_none, over-one, over_on}
 use Rattle.stripe.specs.declared.Shape.{Shape}
 use Rattle.plan.specs.declared.Span.{Span}
 use Rattle.plan.specs.Plan.{fold_refusal, columns_read, plan, span_at}
+use Rattle.plan.proofs.Bounds.{columns_small}
+use Rattle.plan.proofs.Costs.{columns_read_lem}
 use Rattle.plan.proofs.Counted.{columns_counted}
+use Rattle.plan.proofs.Refusals.{no_columns}
 use Rattle.shelf.specs.Shelf.{spans_refusal, spans_written, spans_filled}
 
 -- the list xs with the first i of the records ps stored
@@ -61,6 +66,18 @@ pub written_plan : (s : Shape) (n f room : ℕ) → spans_written s n f room ≤
 unfolding spans_written
 written_plan s n f room =
     subst (λ (x : ℕ). spans_written s n f room ≤ x) (sym (columns_counted s n f)) (some_of (eqb (spans_refusal s n f room) 0) (columns_read s n f))
+
+few_read : (s : Shape) (n f : ℕ) → columns_read s n f ≤ 65790
+few_read s n f = go (zero_or_not (fold_refusal s n f))
+  where
+    go : (fold_refusal s n f ≡ 0) ⊎ (fold_refusal s n f ≡ 0 → ⊥) → columns_read s n f ≤ 65790
+    go (inl z) = omega (arith, columns_read_lem s n f z, columns_small s n f z)
+    go (inr h) = omega (arith, no_columns s n f h)
+
+-- and no more than any plan has
+pub written_few : (s : Shape) (n f room : ℕ) → spans_written s n f room ≤ 65790
+unfolding spans_written
+written_few s n f room = omega (arith, some_of (eqb (spans_refusal s n f room) 0) (columns_read s n f), few_read s n f)
 
 -- when all are stored the list is as stated
 pub front_done : (s : Shape) (n f : ℕ) (xs : List Span) → front (plan s n f) (spans_written s n f (length xs)) xs ≡ spans_filled s n f xs

@@ -11,299 +11,321 @@ use number::write_number;
 use plan::counts::{bill_of, bytes_read, columns_read};
 use plan::fold_refusal;
 use record::read::read_record;
+use std::io;
 use stripe::Shape;
 use stripe::column::column;
 use writing::write_record;
 
-fn text(words: &[u8]) {
-    io::write_all(libc::STDOUT_FILENO, words);
+fn text(rt: &impl Print, words: &str) -> io::Result<()> {
+    print!(rt; "{words}")
 }
 
-fn number(n: usize) {
-    io::print_decimal(libc::STDOUT_FILENO, n as u64);
+fn number(rt: &impl Print, n: usize) -> io::Result<()> {
+    print!(rt; "{n}")
 }
 
-fn byte(b: u8) {
-    let hex = b"0123456789abcdef";
-    let digits = [hex[(b / 16) as usize], hex[(b % 16) as usize]];
-    io::write_all(libc::STDOUT_FILENO, &digits);
+fn byte(rt: &impl Print, b: u8) -> io::Result<()> {
+    print!(rt; "{b:02x}")
 }
 
-fn bytes(xs: &[u8]) {
-    let mut i = 0;
-    while i < xs.len() {
-        text(b" ");
-        byte(xs[i]);
-        i += 1;
+fn bytes(rt: &impl Print, xs: &[u8]) -> io::Result<()> {
+    for x in xs {
+        text(rt, " ")?;
+        byte(rt, *x)?;
     }
+    Ok(())
 }
 
-fn named(words: &[u8], n: usize) {
-    text(words);
-    number(n);
+fn named(rt: &impl Print, words: &str, n: usize) -> io::Result<()> {
+    text(rt, words)?;
+    number(rt, n)
 }
 
-fn listed(words: &[u8], xs: &[u8]) {
-    text(words);
-    bytes(xs);
+fn listed(rt: &impl Print, words: &str, xs: &[u8]) -> io::Result<()> {
+    text(rt, words)?;
+    bytes(rt, xs)
 }
 
-fn product(a: u8, b: u8) {
-    byte(a);
-    text(b" times ");
-    byte(b);
-    text(b" is ");
-    byte(Gf(a).product(Gf(b)).0);
-    text(b"\n");
+fn product(rt: &impl Print, a: u8, b: u8) -> io::Result<()> {
+    byte(rt, a)?;
+    text(rt, " times ")?;
+    byte(rt, b)?;
+    text(rt, " is ")?;
+    byte(rt, Gf(a).product(Gf(b)).0)?;
+    text(rt, "\n")
 }
 
-fn power(n: usize) {
-    named(b"g^", n);
-    text(b" is ");
-    byte(Gf::power(n).0);
-    text(b"\n");
+fn power(rt: &impl Print, n: usize) -> io::Result<()> {
+    named(rt, "g^", n)?;
+    text(rt, " is ")?;
+    byte(rt, Gf::power(n).0)?;
+    text(rt, "\n")
 }
 
-fn shape(s: Shape) {
-    named(b"k=", s.k);
-    named(b" r=", s.r);
-    named(b" t=", s.t);
-    named(b" L=", s.l);
+fn shape(rt: &impl Print, s: Shape) -> io::Result<()> {
+    named(rt, "k=", s.k)?;
+    named(rt, " r=", s.r)?;
+    named(rt, " t=", s.t)?;
+    named(rt, " L=", s.l)
 }
 
-fn refusal(k: usize, r: usize, t: usize, l: usize) {
+fn refusal(rt: &impl Print, k: usize, r: usize, t: usize, l: usize) -> io::Result<()> {
     let s = Shape::new(k, r, t, l);
-    shape(s);
-    named(b": ", s.refusal() as usize);
-    text(b"\n");
+    shape(rt, s)?;
+    named(rt, ": ", s.refusal() as usize)?;
+    text(rt, "\n")
 }
 
-fn parity(s: Shape, data: &[u8], parity: &mut [u8]) {
-    shape(s);
-    listed(b" data", data);
+fn parity(rt: &impl Print, s: Shape, data: &[u8], parity: &mut [u8]) -> io::Result<()> {
+    shape(rt, s)?;
+    listed(rt, " data", data)?;
     let no = encode(s, data, parity);
-    named(b" answers ", no as usize);
-    listed(b" parity", parity);
-    text(b"\n");
+    named(rt, " answers ", no as usize)?;
+    listed(rt, " parity", parity)?;
+    text(rt, "\n")
 }
 
-fn check(s: Shape, data: &[u8], parity: &[u8]) {
-    shape(s);
-    listed(b" data", data);
-    listed(b" parity", parity);
+fn check(rt: &impl Print, s: Shape, data: &[u8], parity: &[u8]) -> io::Result<()> {
+    shape(rt, s)?;
+    listed(rt, " data", data)?;
+    listed(rt, " parity", parity)?;
     match first_wrong(s, data, parity) {
-        Wrong::Nowhere => text(b" agrees\n"),
+        Wrong::Nowhere => text(rt, " agrees\n"),
         Wrong::At(column, place) => {
-            named(b" is wrong at ", column);
-            named(b", ", place);
-            text(b"\n");
+            named(rt, " is wrong at ", column)?;
+            named(rt, ", ", place)?;
+            text(rt, "\n")
         }
         Wrong::Refused(no) => {
-            named(b" is refused ", no as usize);
-            text(b"\n");
+            named(rt, " is refused ", no as usize)?;
+            text(rt, "\n")
         }
     }
 }
 
-fn claimed(words: &[u8], holds: bool, n: usize) {
-    text(words);
+fn claimed(rt: &impl Print, words: &str, holds: bool, n: usize) -> io::Result<()> {
+    text(rt, words)?;
     if !holds {
-        text(b"not ");
+        text(rt, "not ")?;
     }
-    number(n);
+    number(rt, n)
 }
 
-fn plan(s: Shape, stripes: usize, f: usize, bytes: usize) {
-    shape(s);
-    named(b" N=", stripes);
-    named(b" f=", f);
-    named(b": ", fold_refusal(s, stripes, f) as usize);
-    claimed(b", ", bytes_read(s, stripes, f).is(bytes), bytes);
-    named(b" bytes, ", columns_read(s, stripes, f).number());
-    text(b" columns\n");
+fn plan(rt: &impl Print, s: Shape, stripes: usize, f: usize, bytes: usize) -> io::Result<()> {
+    shape(rt, s)?;
+    named(rt, " N=", stripes)?;
+    named(rt, " f=", f)?;
+    named(rt, ": ", fold_refusal(s, stripes, f) as usize)?;
+    claimed(rt, ", ", bytes_read(s, stripes, f).is(bytes), bytes)?;
+    named(rt, " bytes, ", columns_read(s, stripes, f).number())?;
+    text(rt, " columns\n")
 }
 
-fn billed(s: Shape, stripes: usize, f: usize, read: usize, written: usize, sum: usize) {
+fn billed(
+    rt: &impl Print,
+    s: Shape,
+    stripes: usize,
+    f: usize,
+    read: usize,
+    written: usize,
+    sum: usize,
+) -> io::Result<()> {
     let whole = bill_of(s, stripes, f);
-    shape(s);
-    named(b" N=", stripes);
-    named(b" f=", f);
-    named(b": columns ", whole.columns.read.number());
-    named(b" + ", whole.columns.written.number());
-    named(b" = ", whole.columns.sum.number());
-    claimed(b", bytes ", whole.bytes.read.is(read), read);
-    claimed(b" + ", whole.bytes.written.is(written), written);
-    claimed(b" = ", whole.bytes.sum.is(sum), sum);
-    text(b"\n");
+    shape(rt, s)?;
+    named(rt, " N=", stripes)?;
+    named(rt, " f=", f)?;
+    named(rt, ": columns ", whole.columns.read.number())?;
+    named(rt, " + ", whole.columns.written.number())?;
+    named(rt, " = ", whole.columns.sum.number())?;
+    claimed(rt, ", bytes ", whole.bytes.read.is(read), read)?;
+    claimed(rt, " + ", whole.bytes.written.is(written), written)?;
+    claimed(rt, " = ", whole.bytes.sum.is(sum), sum)?;
+    text(rt, "\n")
 }
 
-fn folded(s: Shape, f: usize, read: &[u8], parity: &mut [u8]) {
-    plan(s, 2, f, read.len());
-    listed(b"  read", read);
+fn folded(rt: &impl Print, s: Shape, f: usize, read: &[u8], parity: &mut [u8]) -> io::Result<()> {
+    plan(rt, s, 2, f, read.len())?;
+    listed(rt, "  read", read)?;
     let no = fold(s, 2, f, read, parity);
-    named(b" answers ", no as usize);
-    listed(b" parity", parity);
-    text(b"\n");
+    named(rt, " answers ", no as usize)?;
+    listed(rt, " parity", parity)?;
+    text(rt, "\n")
 }
 
-fn part<'a>(s: Shape, data: &'a [u8], parity: &'a [u8], at: usize) {
-    named(b"column ", at);
-    listed(b":", column(s, data, parity, at));
-    text(b"\n");
+fn part<'a>(
+    rt: &impl Print,
+    s: Shape,
+    data: &'a [u8],
+    parity: &'a [u8],
+    at: usize,
+) -> io::Result<()> {
+    named(rt, "column ", at)?;
+    listed(rt, ":", column(s, data, parity, at))?;
+    text(rt, "\n")
 }
 
-fn written(value: u32) {
+fn written(rt: &impl Print, value: u32) -> io::Result<()> {
     let mut out = [0u8; 5];
     let n = write_number(value, &mut out, 0);
-    number(value as usize);
-    listed(b" is written", &out);
-    named(b", next place ", n);
-    text(b"\n");
+    number(rt, value as usize)?;
+    listed(rt, " is written", &out)?;
+    named(rt, ", next place ", n)?;
+    text(rt, "\n")
 }
 
-fn recorded(s: Shape, stripe: &[u8], lost: &[u16]) {
+fn recorded(rt: &impl Print, s: Shape, stripe: &[u8], lost: &[u16]) -> io::Result<()> {
     let mut out = [0xeeu8; 16];
     let w = write_record(s, stripe, lost, &mut out);
-    shape(s);
-    listed(b" stripe", stripe);
-    named(b" answers ", w.number as usize);
-    named(b", ", w.length);
-    listed(b" bytes:", &out);
-    text(b"\n");
+    shape(rt, s)?;
+    listed(rt, " stripe", stripe)?;
+    named(rt, " answers ", w.number as usize)?;
+    named(rt, ", ", w.length)?;
+    listed(rt, " bytes:", &out)?;
+    text(rt, "\n")
 }
 
-fn front(xs: &[u8]) {
+fn front(rt: &impl Print, xs: &[u8]) -> io::Result<()> {
     if 8 <= xs.len() {
-        bytes(&xs[..8]);
+        bytes(rt, &xs[..8])?;
     }
+    Ok(())
 }
 
-fn taken(record: &[u8]) {
+fn taken(rt: &impl Print, record: &[u8]) -> io::Result<()> {
     let mut stripe = [0xeeu8; 65536];
     let mut lost = [7u16; 258];
     let got = read_record(record, &mut stripe, &mut lost);
-    listed(b"record", record);
-    named(b" answers ", got.number as usize);
-    text(b", ");
-    shape(got.shape);
-    named(b", ", got.lost);
-    text(b" lost, stripe");
-    front(&stripe);
-    text(b"\n");
+    listed(rt, "record", record)?;
+    named(rt, " answers ", got.number as usize)?;
+    text(rt, ", ")?;
+    shape(rt, got.shape)?;
+    named(rt, ", ", got.lost)?;
+    text(rt, " lost, stripe")?;
+    front(rt, &stripe)?;
+    text(rt, "\n")
 }
 
-fn fields() {
-    product(0x02, 0x80);
-    power(255);
+fn fields(rt: &impl Print) -> io::Result<()> {
+    product(rt, 0x02, 0x80)?;
+    power(rt, 255)
 }
 
-fn allowed() {
-    refusal(255, 3, 0, 1);
-    refusal(256, 3, 0, 1);
-    refusal(4, 2, 2, 4);
-    refusal(1, 1, 2, 2);
-    refusal(2, 1, 2, 3);
-    refusal(3, 1, 3, 4096);
-    refusal(18446744073709551615, 1, 0, 18446744073709551615);
+fn allowed(rt: &impl Print) -> io::Result<()> {
+    refusal(rt, 255, 3, 0, 1)?;
+    refusal(rt, 256, 3, 0, 1)?;
+    refusal(rt, 4, 2, 2, 4)?;
+    refusal(rt, 1, 1, 2, 2)?;
+    refusal(rt, 2, 1, 2, 3)?;
+    refusal(rt, 3, 1, 3, 4096)?;
+    refusal(rt, 18446744073709551615, 1, 0, 18446744073709551615)
 }
 
-fn plain() {
+fn plain(rt: &impl Print) -> io::Result<()> {
     let mut p = [0u8; 3];
     let s = Shape::new(2, 3, 0, 1);
-    parity(s, b"\x01\x02", &mut p);
-    parity(s, b"\x03\x04", &mut p);
-    check(s, b"\x03\x04", b"\x07\x0b\x13");
-    check(s, b"\x03\x04", b"\x07\x0b\x12");
-    check(s, b"\x03\x04", b"\x07\x0b");
+    parity(rt, s, b"\x01\x02", &mut p)?;
+    parity(rt, s, b"\x03\x04", &mut p)?;
+    check(rt, s, b"\x03\x04", b"\x07\x0b\x13")?;
+    check(rt, s, b"\x03\x04", b"\x07\x0b\x12")?;
+    check(rt, s, b"\x03\x04", b"\x07\x0b")
 }
 
-fn prepared() {
+fn prepared(rt: &impl Print) -> io::Result<()> {
     let mut p = [0u8; 2];
     let s = Shape::new(2, 1, 2, 2);
-    parity(s, b"\x01\x03\x02\x04", &mut p);
-    parity(s, b"\x05\x07\x06\x08", &mut p);
-    check(s, b"\x01\x03\x02\x04", b"\x03\x07");
+    parity(rt, s, b"\x01\x03\x02\x04", &mut p)?;
+    parity(rt, s, b"\x05\x07\x06\x08", &mut p)?;
+    check(rt, s, b"\x01\x03\x02\x04", b"\x03\x07")
 }
 
-fn three_runs() {
+fn three_runs(rt: &impl Print) -> io::Result<()> {
     let mut p = [0u8; 6];
     parity(
+        rt,
         Shape::new(3, 2, 3, 3),
         b"\x53\xca\x01\x1d\x80\xff\x9b\x00\x47",
         &mut p,
-    );
+    )?;
     let mut q = [0u8; 3];
     parity(
+        rt,
         Shape::new(3, 1, 3, 3),
         b"\x53\xca\x01\x1d\x80\xff\x9b\x00\x47",
         &mut q,
-    );
+    )?;
     let mut a = [0u8; 12];
     let d =
         b"\x53\xca\x01\x1d\x80\xff\x9b\x00\x47\x02\xe6\x7c\x35\xa8\x10\xd1\x6f\x04\xb2\x59\x8e\x23\xfa\x60";
-    parity(Shape::new(4, 2, 3, 6), d, &mut a);
+    parity(rt, Shape::new(4, 2, 3, 6), d, &mut a)?;
     let mut b = [0u8; 6];
-    parity(Shape::new(4, 1, 3, 6), d, &mut b);
+    parity(rt, Shape::new(4, 1, 3, 6), d, &mut b)
 }
 
-fn plans() {
-    plan(Shape::new(4, 1, 2, 2), 2, 2, 12);
-    plan(Shape::new(4, 2, 0, 512), 3, 2, 3072);
-    plan(Shape::new(127, 1, 0, 1), 2, 1, 2);
-    plan(Shape::new(128, 1, 0, 1), 2, 1, 0);
-    plan(Shape::new(4, 2, 0, 512), 1, 2, 0);
+fn plans(rt: &impl Print) -> io::Result<()> {
+    plan(rt, Shape::new(4, 1, 2, 2), 2, 2, 12)?;
+    plan(rt, Shape::new(4, 2, 0, 512), 3, 2, 3072)?;
+    plan(rt, Shape::new(127, 1, 0, 1), 2, 1, 2)?;
+    plan(rt, Shape::new(128, 1, 0, 1), 2, 1, 0)?;
+    plan(rt, Shape::new(4, 2, 0, 512), 1, 2, 0)
 }
 
-fn bills() {
-    billed(Shape::new(4, 2, 0, 4096), 3, 2, 24576, 8192, 32768);
-    billed(Shape::new(4, 4, 0, 1), 2, 4, 8, 4, 12);
-    billed(Shape::new(2, 1, 2, 2), 2, 2, 8, 4, 12);
-    billed(Shape::new(4, 2, 0, 512), 3, 3, 6144, 1536, 7680);
-    billed(Shape::new(4, 2, 0, 512), 1, 2, 0, 0, 0);
+fn bills(rt: &impl Print) -> io::Result<()> {
+    billed(rt, Shape::new(4, 2, 0, 4096), 3, 2, 24576, 8192, 32768)?;
+    billed(rt, Shape::new(4, 4, 0, 1), 2, 4, 8, 4, 12)?;
+    billed(rt, Shape::new(2, 1, 2, 2), 2, 2, 8, 4, 12)?;
+    billed(rt, Shape::new(4, 2, 0, 512), 3, 3, 6144, 1536, 7680)?;
+    billed(rt, Shape::new(4, 2, 0, 512), 1, 2, 0, 0, 0)
 }
 
-fn folds() {
+fn folds(rt: &impl Print) -> io::Result<()> {
     let mut two = [0u8; 2];
-    folded(Shape::new(2, 3, 0, 1), 2, b"\x03\x05\x07\x0b", &mut two);
+    folded(rt, Shape::new(2, 3, 0, 1), 2, b"\x03\x05\x07\x0b", &mut two)?;
     let mut three = [0u8; 3];
-    folded(Shape::new(2, 3, 0, 1), 3, b"\x01\x02\x03\x04", &mut three);
+    folded(
+        rt,
+        Shape::new(2, 3, 0, 1),
+        3,
+        b"\x01\x02\x03\x04",
+        &mut three,
+    )?;
     let mut four = [0u8; 4];
     folded(
+        rt,
         Shape::new(2, 1, 2, 2),
         2,
         b"\x03\x04\x03\x02\x07\x08\x03\x06",
         &mut four,
-    );
+    )
 }
 
-fn columns() {
+fn columns(rt: &impl Print) -> io::Result<()> {
     let s = Shape::new(2, 1, 2, 2);
-    part(s, b"\x01\x03\x02\x04", b"\x03\x02", 1);
-    part(s, b"\x01\x03\x02\x04", b"\x03\x02", 2);
-    part(s, b"\x01\x03\x02\x04", b"\x03\x02", 3);
+    part(rt, s, b"\x01\x03\x02\x04", b"\x03\x02", 1)?;
+    part(rt, s, b"\x01\x03\x02\x04", b"\x03\x02", 2)?;
+    part(rt, s, b"\x01\x03\x02\x04", b"\x03\x02", 3)
 }
 
-fn records() {
-    written(300);
+fn records(rt: &impl Print) -> io::Result<()> {
+    written(rt, 300)?;
     let s = Shape::new(4, 2, 0, 1);
     let lost = [0u16, 3];
-    recorded(s, b"\x05\x06\x03\x04\x04\x29", &lost);
-    recorded(s, b"\x05\x06\x03\x04\x04\x29", &lost[1..]);
-    recorded(s, b"\x05\x06\x03\x04\x04", &lost);
-    taken(b"\x04\x02\x00\x01\x02\x00\x03\x06\x03\x04\x29");
-    taken(b"\x80\x00");
-    taken(b"");
+    recorded(rt, s, b"\x05\x06\x03\x04\x04\x29", &lost)?;
+    recorded(rt, s, b"\x05\x06\x03\x04\x04\x29", &lost[1..])?;
+    recorded(rt, s, b"\x05\x06\x03\x04\x04", &lost)?;
+    taken(rt, b"\x04\x02\x00\x01\x02\x00\x03\x06\x03\x04\x29")?;
+    taken(rt, b"\x80\x00")?;
+    taken(rt, b"")
 }
 
-fn main() {
-    fields();
-    allowed();
-    plain();
-    prepared();
-    three_runs();
-    plans();
-    bills();
-    folds();
-    columns();
-    records();
+fn main(rt: HostRuntime) -> io::Result<()> {
+    fields(&rt)?;
+    allowed(&rt)?;
+    plain(&rt)?;
+    prepared(&rt)?;
+    three_runs(&rt)?;
+    plans(&rt)?;
+    bills(&rt)?;
+    folds(&rt)?;
+    columns(&rt)?;
+    records(&rt)
 }

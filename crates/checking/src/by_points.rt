@@ -18,6 +18,7 @@ use stripe::Shape;
 const WINDOW: usize = 2048;
 
 // The first index at which the parity lent differs from the parity of the data, or its length.
+#[inline(never)]
 pub(crate) fn first_by_points(s: Shape, data: &[u8], lent: &[u8]) -> usize
     requires { (lent_refusal s (length «data».now) (length lent.now) ≡ 0) × (by_points s ≡ true) }
     ensures { result ≡ first_difference lent.now (parity s «data».now) }

@@ -13,6 +13,7 @@ use stripe::{MOST_ROWS_LENGTH, Shape};
 pub(crate) const SMALL: usize = 192;
 
 // The first index at which the parity lent differs from the parity of the data, or its length.
+#[inline(never)]
 pub(crate) fn first_by_rows(s: Shape, data: &[u8], lent: &[u8]) -> usize
     requires { (lent_refusal s (length «data».now) (length lent.now) ≡ 0) × (by_points s ≡ false) }
     ensures { result ≡ first_difference lent.now (parity s «data».now) }

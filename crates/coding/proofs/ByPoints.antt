@@ -1,5 +1,5 @@
 -- The constants of the shape times the data columns are the parity by check equations.
-use mathlib.Core.Path.{◌≡◌, refl, sym, ap, ap₂, ◌∙◌, subst}
+use mathlib.Core.Path.{◌≡◌, sym, ap, ap₂, ◌∙◌, subst}
 use mathlib.Core.Bool.{true}
 use mathlib.Core.List.{List}
 use Prim.Native.Nat.{ℕ, ◌+◌, ◌-◌, ◌*◌, ◌%◌, ◌<◌, ◌≤◌}
@@ -11,14 +11,14 @@ use Rattle.field.proofs.Bytes.{tabulate-length, tabulate_at}
 use Rattle.points.specs.Points.{parity_of as solvedParity}
 use Rattle.points.specs.Lagrange.{dot}
 use Rattle.stripe.specs.declared.Shape.{Shape}
-use Rattle.stripe.specs.Shape.{shape_refusal, parity_length}
+use Rattle.stripe.specs.Shape.{shape_refusal}
 use Rattle.stripe.specs.Stripe.{across, by_points, parity_byte, parity}
 use Rattle.stripe.specs.Column.{lent_refusal}
-use Rattle.stripe.proofs.Allowed.{Allowed, allowed, points_fit}
+use Rattle.stripe.proofs.Allowed.{allowed, points_fit}
 use Rattle.stripe.proofs.Places.{column_inside, parity_exact, parity_by_points}
 use Rattle.stripe.proofs.Lent.{lent}
-use Rattle.matrix.specs.Matrix.{row_of, bytes_at, matrix_fits, applied, becomes}
-use Rattle.matrix.proofs.Shape.{Numbers, Lengths, fit_lengths, applied-length, applied_place, becomes_fits}
+use Rattle.matrix.specs.Matrix.{row_of, bytes_at, applied, becomes}
+use Rattle.matrix.proofs.Shape.{Lengths, fit_lengths, applied-length, applied_place, becomes_fits}
 use Rattle.constants.specs.Constants.{most_constants, encoding_of, encodes}
 use Rattle.constants.proofs.Made.{few_constants, encoding_made, encoding_length}
 use Rattle.constants.proofs.Applied.{order_small, parity_applied}

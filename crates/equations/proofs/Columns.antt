@@ -1,12 +1,12 @@
 -- Columns by their places, and codewords as data with their parity.
-use mathlib.Core.Path.{◌≡◌, refl, sym, ap, ap₂, ◌∙◌, subst}
+use mathlib.Core.Path.{◌≡◌, sym, ap, ap₂, ◌∙◌, subst}
 use mathlib.Core.Logic.{◌↔◌}
-use mathlib.Core.List.{List, ◌∷◌, ◌++◌}
-use Prim.Native.Nat.{ℕ, zero, suc, ◌+◌, ◌*◌, ◌/◌, ◌%◌, ◌<◌, ◌≤◌}
-use native.Mathlib.Nat.{zero-add, suc-add, add-mul}
+use mathlib.Core.List.{List}
+use Prim.Native.Nat.{ℕ, ◌+◌, ◌*◌, ◌/◌, ◌%◌, ◌<◌, ◌≤◌}
+use native.Mathlib.Nat.{add-mul}
 use native.Mathlib.Omega.{arith}
 use lib.ListN.{length, get_or, take, drop, length-drop}
-use lib.Seq.{ext_get_or, get_or-drop}
+use lib.Seq.{ext_get_or}
 use Rattle.field.specs.Bytes.{Bytes}
 use Rattle.field.proofs.Bytes.{tabulate-length, tabulate_at, tabulate_bytes, drop_bytes}
 use Rattle.stripe.specs.Stripe.{across}

@@ -36,7 +36,8 @@ cut_append s zss [] ys = refl
 cut_append s zss (x ∷ xs) ys =
     ap (λ (l : List ℕ). named s zss x ++ l) (cut_append s zss xs ys) ∙ sym (append_assoc (named s zss x) _ _)
 
-columns_alone : (s : Shape) (zss : List (List ℕ)) (n a m c k : ℕ) → cut_out s zss (column_spans n a m c k) ≡ cut_out s (get_or zss n [] ∷ []) (column_spans 0 a m c k)
+columns_alone : (s : Shape) (zss : List (List ℕ)) (n a m c k : ℕ)
+    → cut_out s zss (column_spans n a m c k) ≡ cut_out s (get_or zss n [] ∷ []) (column_spans 0 a m c k)
 unfolding cut_out named column_spans
 columns_alone s zss n a m c zero = refl
 columns_alone s zss n a m c (suc k) =

@@ -81,7 +81,8 @@ module _ (s : Shape) (n f : ℕ) (passed : fold_refusal s n f ≡ 0) where
 
     pub encoded_fold : by_points s ≡ false → (ys : List ℕ) → length ys ≡ f * s.l → encoded_by_rows (wide_shape s n f) xs ys ≡ fold_of s n f xs
     encoded_fold rows ys e =
-        encoded_by_rows_lem (wide_shape s n f) xs ys (able.new_rows rows) ∙ sym (encoded_done (wide_shape s n f) xs ys (wide_lent (length ys) e)) ∙ sym fold_parity_lem
+        encoded_by_rows_lem (wide_shape s n f) xs ys (able.new_rows rows)
+        ∙ sym (encoded_done (wide_shape s n f) xs ys (wide_lent (length ys) e)) ∙ sym fold_parity_lem
 
 -- ---- whole stripes
 

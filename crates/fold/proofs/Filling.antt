@@ -16,13 +16,13 @@ use Rattle.field.proofs.Cases.{below_or_from}
 use Rattle.stripe.specs.declared.Shape.{Shape}
 use Rattle.stripe.specs.Stripe.{runs, run_length, by_points, plain_runs}
 use Rattle.stripe.specs.Shape.{most_rows}
-use Rattle.stripe.proofs.Allowed.{Allowed, Prepared, allowed, few_by_rows, plain_runs_lem, prepared_runs, plain_run_length, prepared_run_length}
+use Rattle.stripe.proofs.Allowed.{Allowed, Prepared, allowed, few_by_rows, plain_runs_lem, prepared_runs, plain_run_length}
 use Rattle.stripe.proofs.Places.{place_lt, place_column, place_byte, place_split, place_column_lt, place_byte_lt, column_inside}
 use Rattle.lanes.proofs.Parts.{part_length, part_at, back_length, back_inside, back_outside}
 use Rattle.plan.specs.declared.Kind.{Kind}
 use Rattle.plan.specs.declared.Kind.TheVariants.{A, B, C}
 use Rattle.plan.specs.Plan.{fold_refusal, kind_of, bytes_each}
-use Rattle.plan.proofs.Foldable.{IsA, IsB, IsC, Foldable, foldable, new_kinds, tests_passed}
+use Rattle.plan.proofs.Foldable.{IsA, IsB, IsC, foldable, new_kinds, tests_passed}
 use Rattle.plan.proofs.Counted.{runs_sum}
 use Rattle.fold.specs.declared.shares.Share.{Share}
 use Rattle.fold.specs.declared.shares.Share.TheVariants.{Read, Row, Both}

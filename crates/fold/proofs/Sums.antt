@@ -86,7 +86,8 @@ module _ (xs ys : List ℕ) (l p k m : ℕ) (e : length xs ≡ k * l) (hp : p < 
       at i h (inl a) = in_first i a
       at i h (inr b) =
           let w : k + (i - k) ≡ i = omega arith in
-          subst (λ (x : ℕ). get_or (across (xs ++ ys) l p 0 (k + m)) x 0 ≡ get_or (across xs l p 0 k ++ across ys l p 0 m) x 0) w (in_second (i - k) (omega arith))
+          subst (λ (x : ℕ). get_or (across (xs ++ ys) l p 0 (k + m)) x 0 ≡ get_or (across xs l p 0 k ++ across ys l p 0 m) x 0) w
+          (in_second (i - k) (omega arith))
 
 pub across_none : (xs : List ℕ) (l p o m : ℕ) → m ≡ 0 → across xs l p o m ≡ []
 unfolding across

@@ -110,7 +110,8 @@ lists_turn ws cs p ns ls ms b n long few fits rest h new kept = record { at = λ
 
     old : (d : ℕ) → d < b → Of d (get_or (set ns b n) d 0)
     old d a =
-        let far : (j : ℕ) → j < get_or ns d 0 → get_or ms (d * 256 + j) 0 ≡ get_or ls (d * 256 + j) 0 = λ j l. kept (d * 256 + j) (omega (arith, (h.at d a).few)) in
+        let far : (j : ℕ) → j < get_or ns d 0
+        → get_or ms (d * 256 + j) 0 ≡ get_or ls (d * 256 + j) 0 = λ j l. kept (d * 256 + j) (omega (arith, (h.at d a).few)) in
         subst (Of d) (sym (get_or-set_other ns b d n 0 (λ z. omega arith)))
         (listed_same _ _ cs (length cs) (d * 256) (get_or ns d 0) ls ms (λ i l. refl) far (h.at d a))
 

@@ -51,7 +51,8 @@ same_columns a b e i = record { 0 = e i }
 pub same_bytes : (a b : Bytes) → a.0 ≡ b.0 → a ≡ b
 same_bytes a b e i = record { 0 = e i }
 
-pub columns_read_unique : (κs : Lfts 0) (a : ArgsD columns_read_lem.signature κs) (r r' : ResD columns_read_lem.signature κs) (s s' : AtExit columns_read_lem.ended κs)
+pub columns_read_unique : (κs : Lfts 0) (a : ArgsD columns_read_lem.signature κs) (r r' : ResD columns_read_lem.signature κs)
+    (s s' : AtExit columns_read_lem.ended κs)
     → columns-read-reads.Post κs a r s → columns-read-reads.Post κs a r' s' → r ≡ r'
 columns_read_unique κs a r r' s s' p q = same_columns r r' (p ∙ sym q)
 

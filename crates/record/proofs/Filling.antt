@@ -16,7 +16,8 @@ use Rattle.record.specs.declared.read.Got.{Got}
 use Rattle.record.specs.declared.read.Verdict.TheVariants.{Lawful}
 use Rattle.record.specs.Layout.{kept, restored}
 use Rattle.number.specs.Number.{next_of}
-use Rattle.record.specs.Reading.{unless, count_number, shape_read, count_of, lost_listed, columns_start, positions_at, content_refusal, verdict_of, read_refusal}
+use Rattle.record.specs.Reading.{unless, count_number, shape_read, count_of, lost_listed, columns_start, positions_at}
+use Rattle.record.specs.Reading.{content_refusal, verdict_of, read_refusal}
 use Rattle.record.specs.Reading.{got_of, columns_filled, positions_filled, stripe_read, lost_read}
 use Rattle.record.proofs.Refusals.{stop, skip, only, passed, failed}
 use Rattle.record.proofs.Accepted.{Accepted, accepted, lawful_says, ascending_below, kept_lost}

@@ -26,7 +26,8 @@ map_same f g [] h = refl
 map_same f g (x ∷ xs) h = ap₂ (λ (y : ℕ) (ys : List ℕ). y ∷ ys) (h x) (map_same f g xs h)
 
 -- the same bytes at a place are the same rows there
-row_same : (ws cs xs ys : List ℕ) (l v p : ℕ) → ((c : ℕ) → get_or xs (c * l + p) 0 ≡ get_or ys (c * l + p) 0) → row_byte ws cs xs l v p ≡ row_byte ws cs ys l v p
+row_same : (ws cs xs ys : List ℕ) (l v p : ℕ) → ((c : ℕ) → get_or xs (c * l + p) 0 ≡ get_or ys (c * l + p) 0)
+    → row_byte ws cs xs l v p ≡ row_byte ws cs ys l v p
 unfolding row_byte
 row_same ws cs xs ys l v p h = ap (dot (row_of (length cs) ws v)) (map_same _ _ cs h)
 
@@ -76,7 +77,8 @@ module _ (ws cs ts xs ms : List ℕ) (l at n : ℕ) (h : Lent ws cs ts l (length
           (sym (sum_zero _ _ (sym (summed v (p - at) hv (omega arith)) ∙ zero_at zs e (v * n + (p - at)))))
 
       zeros : Holds (row_byte ws cs xs l) ts l at (at + n) xs → (i : ℕ) → i < length zs → get_or zs i 0 ≡ 0
-      zeros g i hi = subst (λ (z : ℕ). get_or zs z 0 ≡ 0) (place_split i n) (at_place (i / n) (i % n) (place_column_lt i _ n inside) (place_byte_lt i _ n inside))
+      zeros g i hi = subst (λ (z : ℕ). get_or zs z 0 ≡ 0) (place_split i n)
+          (at_place (i / n) (i % n) (place_column_lt i _ n inside) (place_byte_lt i _ n inside))
         where
           inside : i < length ts * n
           inside = omega (arith, zs_long)

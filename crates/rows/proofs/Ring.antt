@@ -80,7 +80,8 @@ module _ (s : ℕ) (w d y a b : List ℕ) (y-long : length y ≡ 64) (d_long : l
   a_length = onto-length xor with_d a ∙ d_length
 
   sum_at_lem : (q : ℕ) → q < 64
-      → get_or (onto (λ (x y : ℕ). x ⊕ y) with_a b) q 0 ≡ get_or w (s * 64 + q) 0 ⊕ get_or d q 0 ⊕ get_or w (slot s 10 * 64 + q) 0 ⊕ get_or w (slot s 13 * 64 + q) 0
+      → get_or (onto (λ (x y : ℕ). x ⊕ y) with_a b) q 0 ≡ get_or w (s * 64 + q) 0 ⊕ get_or d q 0 ⊕ get_or w
+      (slot s 10 * 64 + q) 0 ⊕ get_or w (slot s 13 * 64 + q) 0
   sum_at_lem q h =
       onto_at xor with_a b q (omega (arith, a_length)) (omega (arith, b-long))
       ∙ ap₂ xor (onto_at xor with_d a q (omega (arith, d_length)) (omega (arith, a-long))

@@ -5,14 +5,14 @@ use mathlib.Core.List.{List, ◌∷◌, ◌++◌}
 use Prim.Native.Nat.{ℕ, zero, suc, ◌+◌, ◌*◌, ◌<◌, ◌≤◌}
 use native.Mathlib.Nat.{zero-add, suc-add}
 use native.Mathlib.Omega.{arith}
-use lib.ListN.{length, get_or, take, drop, length-append, take-append-drop}
+use lib.ListN.{length, get_or, drop, length-append, take-append-drop}
 use lib.Seq.{ext_get_or, get_or-drop, take_at, drop_at}
 use Rattle.field.specs.Bytes.{Bytes}
 use Rattle.field.proofs.Bytes.{append_bytes, drop_bytes}
-use Rattle.points.specs.Points.{points, sum_at, check_sum as wordSum, Checked, parity_of as solvedParity}
+use Rattle.points.specs.Points.{points, sum_at, check_sum as wordSum, parity_of as solvedParity}
 use Rattle.points.proofs.Parity.{parity-length as solved-length, parity_checked, parity_only, word_sum}
 use Rattle.stripe.specs.declared.Shape.{Shape}
-use Rattle.stripe.specs.Shape.{data_length, parity_length, stripe_length}
+use Rattle.stripe.specs.Shape.{data_length, stripe_length}
 use Rattle.stripe.specs.Stripe.{across, by_points, check_sum, parity_byte, parity, data_of, parity_of, Codeword}
 use Rattle.stripe.proofs.Allowed.{by_points_many}
 use Rattle.stripe.proofs.Places.{across-length, across_first, across_bytes, across-take, parity-length, parity_at, parity_bytes, parity_exact}

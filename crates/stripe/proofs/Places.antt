@@ -1,20 +1,20 @@
 -- Places: byte p of the column at position c stands at c * L + p. What `across` reads, and what parity holds at each place.
 use mathlib.Core.Path.{◌≡◌, refl, sym, ap, ap₂, ◌∙◌, subst}
 use mathlib.Core.Bool.{Bool, true, false, cond}
-use mathlib.Core.List.{List, ◌∷◌, ◌++◌}
+use mathlib.Core.List.{List, ◌∷◌}
 use Prim.Native.Nat.{ℕ, zero, suc, ◌+◌, ◌*◌, ◌/◌, ◌%◌, ◌<◌, ◌≤◌}
 use native.Mathlib.Nat.{le_of_suc-le-suc, not-suc-le-zero, mod-lt, mod-eq_of_lt, div-eq_of_lt, div-lt_iff_lt-mul, div-add-mod'}
 use native.Mathlib.Nat.{mul-add-div_right, mul-add-mod_self_right, mul-le-mul_right, add-zero as ℕ-add-zero, mul-zero as ℕ-mul-zero}
 use native.Mathlib.Omega.{arith}
 use lib.Dec.{ltb, lit<}
-use lib.ListN.{length, get_or, take, length-drop, length-append, take-append-drop}
-use lib.Seq.{ext_get_or, get_or-take, get_or-drop, length-take-le, take_at, drop_at}
+use lib.ListN.{length, get_or, take, length-drop}
+use lib.Seq.{ext_get_or, get_or-take, get_or-drop, length-take-le}
 use borrow.Author.Tests.{lt-ltb, le-ltb}
 use Rattle.field.specs.Field.{◌⊕◌}
 use Rattle.field.specs.Bytes.{Bytes, ◌⊞◌}
 use Rattle.field.specs.Row.{row}
 use Rattle.field.proofs.Xor.{add-lt, add-zero}
-use Rattle.field.proofs.Bytes.{tabulate-length, tabulate_at, tabulate_bytes, add_at, append_bytes}
+use Rattle.field.proofs.Bytes.{tabulate-length, tabulate_at, tabulate_bytes, add_at}
 use Rattle.field.proofs.Rows.{row_lt}
 use Rattle.points.specs.Points.{parity_of as solvedParity}
 use Rattle.points.proofs.Parity.{parity_bytes as solved-parity-bytes}

@@ -32,7 +32,8 @@ lines_more l es c (suc m) xs =
     let f : l + m * l ≡ suc m * l = omega (arith, suc-mul m l) in
     ap (λ (t : List ℕ). column_line c (among c es) (take l xs) ++ t) (lines_more l es (suc c) m (drop l xs))
     ∙ sym (append_assoc (column_line c (among c es) (take l xs)) (column_lines l es (suc c) m (drop l xs)) _)
-    ∙ ap₂ (λ (k : ℕ) (ys : List ℕ). (column_line c (among c es) (take l xs) ++ column_lines l es (suc c) m (drop l xs)) ++ column_line k (among k es) (take l ys))
+    ∙ ap₂ (λ (k : ℕ) (ys : List ℕ). (column_line c (among c es) (take l xs) ++ column_lines l es (suc c) m (drop l xs)) ++ column_line k
+    (among k es) (take l ys))
     e (drop-drop (m * l) l xs ∙ ap (λ (n : ℕ). drop n xs) f)
 
 lines_length : (l : ℕ) (es : List ℕ) (m : ℕ) (xs : List ℕ)

@@ -17,7 +17,8 @@ use Rattle.number.specs.declared.Number.TheVariants.{Value}
 use Rattle.number.specs.Number.{number_at, number_refusal, written, value_of, next_of}
 use Rattle.writing.specs.Writing.{LaidOut}
 use Rattle.record.specs.Layout.{positions_written, survivors, kept, restored, record_of}
-use Rattle.record.specs.Reading.{first_number, second_number, third_number, fourth_number, count_number, shape_read, count_of, lost_listed, columns_start, stripe_refusal}
+use Rattle.record.specs.Reading.{first_number, second_number, third_number, fourth_number, count_number, shape_read, count_of}
+use Rattle.record.specs.Reading.{lost_listed, columns_start, stripe_refusal}
 use Rattle.record.specs.Reading.{head_refusal, positions_refusal, positions_at, after_positions, content_refusal, columns_filled}
 use Rattle.number.proofs.Written.{read_written}
 use Rattle.record.proofs.Survivors.{restored_lost, restored_kept, survivors_lost, survivors_kept}
@@ -143,7 +144,8 @@ module _ (sh : Shape) (es xs : List ℕ) (lawful : stripe_refusal sh ≡ 0) (asc
   accepted_back =
       let p = ap₂ (λ (n m : ℕ). positions_refusal s n m 0 (next_of (count_number s))) wide count_back ∙ read.lawful in
       let f : count_of s ≤ columns (shape_read s) = omega (arith, few, wide, count_back) in
-      let c = columns_exact (length s - columns_start s) ((columns (shape_read s) - count_of s) * (shape_read s).l) (omega (arith, bytes)) (omega (arith, bytes)) in
+      let c = columns_exact (length s - columns_start s) ((columns (shape_read s) - count_of s) * (shape_read s).l)
+      (omega (arith, bytes)) (omega (arith, bytes)) in
       sym (content_rest s head_zero) ∙ sym (rest_columns s (shape_read s) (count_number s) (ap number_refusal five.value) f p 0 c)
 
   -- the buffer is filled from the columns that survived
@@ -178,7 +180,8 @@ module _ (l c m : ℕ) (es xs ys : List ℕ) (long : l ≤ length xs) (room : l 
   -- a byte of that column, and a byte past it
   first_byte : (p : ℕ) → p < l → among c es ≡ false → get_or whole p 0 ≡ get_or xs p 0
   first_byte p h a =
-      ap (λ (zs : List ℕ). get_or zs p 0) (whole_kept a) ∙ get_or-append (take l xs) after 0 p (omega (arith, length-take-le l xs long)) ∙ get_or-take l xs p 0 h
+      ap (λ (zs : List ℕ). get_or zs p 0) (whole_kept a) ∙ get_or-append (take l xs) after 0 p (omega (arith, length-take-le l xs long))
+      ∙ get_or-take l xs p 0 h
 
   past : (zs : List ℕ) (i : ℕ) → length zs ≡ l → get_or (zs ++ after) (l + i) 0 ≡ get_or after i 0
   past zs i e = ap (λ (n : ℕ). get_or (zs ++ after) (n + i) 0) (sym e) ∙ get_or-append-add zs after i 0

@@ -7,7 +7,8 @@ use Rattle.constants.proofs.descending.Given as goal
 
 abbrev pub invariant-loop-i : goal.invariant-loop-i
 invariant-loop-i l =
-    (l.i ≤ length l.initial.out) × (length l.out ≡ length l.initial.out) × (l.x ≡ gpow (l.e + 1 - l.i)) × ((q : ℕ) → l.i ≤ q → q < length l.initial.out → get_or l.out q 0 ≡ gpow (l.e - q))
+    (l.i ≤ length l.initial.out) × (length l.out ≡ length l.initial.out) × (l.x ≡ gpow (l.e + 1 - l.i))
+    × ((q : ℕ) → l.i ≤ q → q < length l.initial.out → get_or l.out q 0 ≡ gpow (l.e - q))
 
 abbrev pub decreases-loop-i : goal.decreases-loop-i
 decreases-loop-i l = l.i

@@ -22,13 +22,17 @@ new_points : (c : After-fill_chosen) → let a = c.args in
     c.fill_chosen.new.out ≡ entries (points a.k a.r) a.to.now
 new_points c =
     let a = c.args in
-    c.fill_chosen.ensures ∙ ap (λ (bs : List ℕ). entries bs a.to.now) (front_read _ _ _ (points-length _ _) (all_filled _ _ _ _ (omega (arith, c.if-k-gt-POINTS.false, c.if-k-r.false)) c.fill_points.ensures))
+    c.fill_chosen.ensures
+    ∙ ap (λ (bs : List ℕ). entries bs a.to.now)
+    (front_read _ _ _ (points-length _ _) (all_filled _ _ _ _ (omega (arith, c.if-k-gt-POINTS.false, c.if-k-r.false)) c.fill_points.ensures))
 
 old-points : (c : After-fill_chosen-2) → let a = c.args in
     c.fill_chosen-2.new.out ≡ entries (points a.k a.r) a.from.now
 old-points c =
     let a = c.args in
-    c.fill_chosen-2.ensures ∙ ap (λ (bs : List ℕ). entries bs a.from.now) (front_read _ _ _ (points-length _ _) (all_filled _ _ _ _ (omega (arith, c.if-k-gt-POINTS.false, c.if-k-r.false)) c.fill_points.ensures))
+    c.fill_chosen-2.ensures
+    ∙ ap (λ (bs : List ℕ). entries bs a.from.now)
+    (front_read _ _ _ (points-length _ _) (all_filled _ _ _ _ (omega (arith, c.if-k-gt-POINTS.false, c.if-k-r.false)) c.fill_points.ensures))
 
 pub returns-then-k-gt-POINTS : goal.returns-then-k-gt-POINTS
 returns-then-k-gt-POINTS c = mends_left _ _ _ _ _ (omega (arith, c.if-k-gt-POINTS.true))

@@ -40,7 +40,8 @@ returns-then-alone c =
     let same : length qs ≡ length c.args.out.now = search rules in
     let one = c.alone.ensures c.if-alone.true in
     let held = held_one _ _ _ _ _ _ _ _ _ one c.one_row.ensures in
-    becomes_applied _ _ _ _ _ _ _ _ (fits (goal.at.returns-then-alone c).Else-not-fits) qs (same ∙ (known (goal.at.returns-then-alone c).Else-not-fits).out) (known (goal.at.returns-then-alone c).Else-not-fits).numbers.columns_some held
+    becomes_applied _ _ _ _ _ _ _ _ (fits (goal.at.returns-then-alone c).Else-not-fits) qs
+    (same ∙ (known (goal.at.returns-then-alone c).Else-not-fits).out) (known (goal.at.returns-then-alone c).Else-not-fits).numbers.columns_some held
 
 pub fill-requires : goal.fill-requires
 fill-requires c =
@@ -51,4 +52,5 @@ pub returns : goal.returns
 returns c =
     let qs = c.fill.new.out in
     let same : length qs ≡ length c.args.out.now = search rules in
-    becomes_applied _ _ _ _ _ _ _ _ (fits (goal.at.returns c).Else-not-fits) qs (same ∙ (known (goal.at.returns c).Else-not-fits).out) (known (goal.at.returns c).Else-not-fits).numbers.columns_some c.fill.ensures
+    becomes_applied _ _ _ _ _ _ _ _ (fits (goal.at.returns c).Else-not-fits) qs (same ∙ (known (goal.at.returns c).Else-not-fits).out)
+    (known (goal.at.returns c).Else-not-fits).numbers.columns_some c.fill.ensures

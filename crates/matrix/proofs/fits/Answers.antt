@@ -30,10 +30,16 @@ columns_fit-requires c = (numbers_fit_lem _ _ _ (known (goal.at.columns_fit-requ
 pub returns-then-not-columns_fit : goal.returns-then-not-columns_fit
 unfolding matrix_fits
 returns-then-not-columns_fit c =
-    simp (known (goal.at.returns-then-not-columns_fit c).Else-not-numbers_fit, eq-eqb _ _ c.if-a-rows.false, sym c.columns_fit.ensures ∙ c.if-not-columns_fit.true)
+    simp (
+      known (goal.at.returns-then-not-columns_fit c).Else-not-numbers_fit,
+      eq-eqb _ _ c.if-a-rows.false,
+      sym c.columns_fit.ensures
+          ∙ c.if-not-columns_fit.true,
+    )
 
 pub overflow_mul-result : goal.overflow_mul-result
-overflow_mul-result c = let h = numbers_fit_lem _ _ _ (known (goal.at.overflow_mul-result c).Else-not-numbers_fit) in omega (arith, mul-le-mul h.rows_most h.places_most)
+overflow_mul-result c = let h = numbers_fit_lem _ _ _ (known (goal.at.overflow_mul-result c).Else-not-numbers_fit) in omega
+    (arith, mul-le-mul h.rows_most h.places_most)
 
 pub returns : goal.returns
 unfolding matrix_fits

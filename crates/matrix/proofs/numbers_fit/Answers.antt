@@ -34,4 +34,10 @@ returns-then-count-lt1 c =
 pub returns : goal.returns
 unfolding numbers_fit
 returns c =
-    simp (le-leb _ _ c.if-rows-lt1.false, le-leb _ _ c.if-rows-gt16.false, le-leb _ _ c.if-m-lt1.false, le-leb _ _ c.if-m-gt255.false, le-leb _ _ c.if-count-lt1.false)
+    simp (
+      le-leb _ _ c.if-rows-lt1.false,
+      le-leb _ _ c.if-rows-gt16.false,
+      le-leb _ _ c.if-m-lt1.false,
+      le-leb _ _ c.if-m-gt255.false,
+      le-leb _ _ c.if-count-lt1.false,
+    )

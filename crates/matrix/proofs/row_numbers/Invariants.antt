@@ -7,7 +7,8 @@ use Rattle.matrix.proofs.row_numbers.Given as goal
 
 abbrev pub invariant-loop-g : goal.invariant-loop-g
 invariant-loop-g l =
-    (l.g ≤ (l.n + 3) / 4) × (length l.es ≡ length l.initial.es) × RowNumbered (λ j. get_or l.matrix (l.from + j) 0) l.row l.n l.g l.es × ((i : ℕ) → i < l.row → get_or l.es i 0 ≡ get_or l.initial.es i 0)
+    (l.g ≤ (l.n + 3) / 4) × (length l.es ≡ length l.initial.es) × RowNumbered (λ j. get_or l.matrix (l.from + j) 0) l.row l.n l.g l.es
+    × ((i : ℕ) → i < l.row → get_or l.es i 0 ≡ get_or l.initial.es i 0)
 
 abbrev pub decreases-loop-g : goal.decreases-loop-g
 decreases-loop-g l = (l.n + 3) / 4 - l.g

@@ -17,7 +17,8 @@ pub overflow_add-k : goal.overflow_add-k
 overflow_add-k c = omega (arith, (numbers_fit_lem _ _ _ _ (known c)).points_most)
 
 pub returns-then-not-ascends : goal.returns-then-not-ascends
-returns-then-not-ascends c = sym (unordered _ _ _ _ _ (known (goal.at.returns-then-not-ascends c).Else-not-fits) (sym c.ascends.ensures ∙ c.if-not-ascends.true))
+returns-then-not-ascends c = sym
+    (unordered _ _ _ _ _ (known (goal.at.returns-then-not-ascends c).Else-not-fits) (sym c.ascends.ensures ∙ c.if-not-ascends.true))
 
 pub returns-then-r-lost : goal.returns-then-r-lost
 returns-then-r-lost c =

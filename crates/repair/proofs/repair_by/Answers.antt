@@ -81,7 +81,8 @@ slice_bounds-mending-end-2 c =
 
 pub slice_bounds-restore-end : goal.slice_bounds-restore-end
 slice_bounds-restore-end c =
-    front_within _ _ _ _ (all_long _ _ _ _ _ (known (goal.at.slice_bounds-restore-end c).Start)) (found (goal.at.slice_bounds-restore-end c).After-survive) (omega arith)
+    front_within _ _ _ _ (all_long _ _ _ _ _ (known (goal.at.slice_bounds-restore-end c).Start))
+    (found (goal.at.slice_bounds-restore-end c).After-survive) (omega arith)
 
 pub slice_bounds-restore-end-2 : goal.slice_bounds-restore-end-2
 slice_bounds-restore-end-2 c =
@@ -91,7 +92,9 @@ slice_bounds-restore-end-2 c =
 pub restore-requires : goal.restore-requires
 restore-requires c =
     let w = known (goal.at.restore-requires c).Start in
-    lent _ _ _ _ _ w _ _ _ (weights (goal.at.restore-requires c).After-mending) (kept_is _ _ _ _ _ w _ (found (goal.at.restore-requires c).After-survive)) (lost_is _ _ _ _ _ w _ (made (goal.at.restore-requires c).After-fill_computed))
+    lent _ _ _ _ _ w _ _ _ (weights (goal.at.restore-requires c).After-mending)
+    (kept_is _ _ _ _ _ w _ (found (goal.at.restore-requires c).After-survive))
+    (lost_is _ _ _ _ _ w _ (made (goal.at.restore-requires c).After-fill_computed))
 
 pub returns : goal.returns
 returns c =
@@ -100,6 +103,7 @@ returns c =
     record {
       refused = λ n. absurd (n c.requires.0);
       judged = λ z.
-          outcome _ _ _ _ _ w _ _ _ (weights (goal.at.returns c).After-mending) (kept_is _ _ _ _ _ w _ (found (goal.at.returns c).After-survive)) (lost_is _ _ _ _ _ w _ (made (goal.at.returns c).After-fill_computed))
+          outcome _ _ _ _ _ w _ _ _ (weights (goal.at.returns c).After-mending) (kept_is _ _ _ _ _ w _ (found (goal.at.returns c).After-survive))
+          (lost_is _ _ _ _ _ w _ (made (goal.at.returns c).After-fill_computed))
           _ refl _ _ bytes c.restore.ensures;
     }

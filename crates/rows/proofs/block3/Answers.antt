@@ -76,7 +76,12 @@ slice_bounds-two_more-end c =
 
 pub slice_bounds-two_more-end-in-loop-i : goal.slice_bounds-two_more-end-in-loop-i
 slice_bounds-two_more-end-in-loop-i c =
-    omega (arith, (before-that (goal.at.slice_bounds-two_more-end-in-loop-i c).In-loop-i).0, (before (goal.at.slice_bounds-two_more-end-in-loop-i c).In-loop-i).0, (before (goal.at.slice_bounds-two_more-end-in-loop-i c).In-loop-i).1.0)
+    omega (
+      arith,
+      (before-that (goal.at.slice_bounds-two_more-end-in-loop-i c).In-loop-i).0,
+      (before (goal.at.slice_bounds-two_more-end-in-loop-i c).In-loop-i).0,
+      (before (goal.at.slice_bounds-two_more-end-in-loop-i c).In-loop-i).1.0,
+    )
 
 pub loop-i-preserved : goal.loop-i-preserved
 loop-i-preserved c =
@@ -87,8 +92,12 @@ loop-i-preserved c =
     let b' = before-that t in
     let fits : at.o - a.l + a.from + 64 ≤ length a.«data».now = omega (arith, b.0, b.1.0) in
     let twice : a.k - (at.i - 2) ≡ suc (suc (a.k - at.i)) = omega (arith, at.invariant.0, c.loop-i-test.true) in
-    let known : Bytes a.«data».now = λ i. (c.shared_slice_known-1.given i).fits in
-    (search rules, b'.1, turn3_two _ _ _ _ _ _ _ _ _ _ _ known b.0 fits at.invariant.2 _ b'.0 twice (c.two_more.ensures.row0_after, (c.two_more.ensures.row1_after, c.two_more.ensures.row2_after)))
+    let known : Bytes a.«data».now = λ i. (c.shared_slice_known-1.given i).fits in (
+      search rules,
+      b'.1,
+      turn3_two _ _ _ _ _ _ _ _ _ _ _ known b.0 fits at.invariant.2 _ b'.0 twice
+          (c.two_more.ensures.row0_after, (c.two_more.ensures.row1_after, c.two_more.ensures.row2_after)),
+    )
 
 pub overflow_sub-s : goal.overflow_sub-s
 overflow_sub-s c = (left c).0
@@ -113,7 +122,9 @@ returns-then-i-gt0 c =
     let more : a.k - (at.i - 1) ≡ suc (a.k - at.i) = omega (arith, at.invariant.0, c.if-i-gt0.true) in
     let none : at.i - 1 ≤ 0 = omega (arith, c.loop-i-test.false) in
     let known : Bytes a.«data».now = λ i. (c.shared_slice_known-1.given i).fits in
-    done3 _ _ _ _ (at.i - 1) _ _ _ _ _ none b.1.1 refl (turn3 _ _ _ _ _ _ _ _ _ _ _ known b.0 fits at.invariant.2 _ more (c.one_more.ensures.row0_after, (c.one_more.ensures.row1_after, c.one_more.ensures.row2_after)))
+    done3 _ _ _ _ (at.i - 1) _ _ _ _ _ none b.1.1 refl
+    (turn3 _ _ _ _ _ _ _ _ _ _ _ known b.0 fits at.invariant.2 _ more
+    (c.one_more.ensures.row0_after, (c.one_more.ensures.row1_after, c.one_more.ensures.row2_after)))
 
 pub returns-else-i-gt0 : goal.returns-else-i-gt0
 returns-else-i-gt0 c =

@@ -32,13 +32,23 @@ pub returns-then-l-lt64 : goal.returns-then-l-lt64
 returns-then-l-lt64 c =
     let qs = c.fill_short.new.out in
     let same : length qs ≡ length c.args.out.now = search rules in
-    filled_exact _ _ _ _ _ (fits (goal.at.returns-then-l-lt64 c).Else-not-rows_fit) qs (same ∙ (known (goal.at.returns-then-l-lt64 c).Else-not-rows_fit).long) c.fill_short.ensures
+    filled_exact _ _ _ _ _ (fits (goal.at.returns-then-l-lt64 c).Else-not-rows_fit) qs
+    (same ∙ (known (goal.at.returns-then-l-lt64 c).Else-not-rows_fit).long) c.fill_short.ensures
 
 pub fill_wide-requires : goal.fill_wide-requires
 fill_wide-requires c =
     let f = known (goal.at.fill_wide-requires c).Else-not-rows_fit in
-    let l = c.args.l in
-    (f.columns.long, (f.columns.some, (omega (arith, c.if-l-lt64.false), f.long ∙ ap (λ (x : ℕ). x * l) (three (goal.at.fill_wide-requires c).Then-many (known (goal.at.fill_wide-requires c).Else-not-rows_fit).most))))
+    let l = c.args.l in (
+      f.columns.long,
+      (
+        f.columns.some,
+        (
+          omega (arith, c.if-l-lt64.false),
+          f.long
+              ∙ ap (λ (x : ℕ). x * l) (three (goal.at.fill_wide-requires c).Then-many (known (goal.at.fill_wide-requires c).Else-not-rows_fit).most),
+        ),
+      ),
+    )
 
 pub returns-then-many : goal.returns-then-many
 returns-then-many c =

@@ -56,5 +56,6 @@ returns c = let a = c.args in
     let both = text_put a.out.now _ (stripe_printed a.s a.lost.now a.stripe.now n) (stripe_text a.s a.lost.now a.stripe.now) _
     (printed a.s a.lost.now a.stripe.now n can)
     (put_then a.out.now 0 (first_line a.s) (column_lines a.s.l a.lost.now 0 (columns a.s) a.stripe.now)
-    (text_fits a.s a.lost.now a.stripe.now n can) v.new.out v.result (v.ensures.value, v.ensures.out_after) _ _ (c.put_lines.ensures.value, c.put_lines.ensures.out_after)) in
+    (text_fits a.s a.lost.now a.stripe.now n can) v.new.out v.result (v.ensures.value, v.ensures.out_after) _ _
+    (c.put_lines.ensures.value, c.put_lines.ensures.out_after)) in
     record { value = both.0; out_after = both.1 }

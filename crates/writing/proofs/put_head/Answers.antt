@@ -126,9 +126,19 @@ returns c = let a = c.args in
     let n5 = c.put_number-first in
     let ps = c.put_positions in
     record {
-      value = omega (arith, head_bytes a.s a.lost.now, ps.ensures.value, n1.ensures.value, n2.ensures.value, n3.ensures.value, n4.ensures.value, n5.ensures.value);
+      value = omega (
+        arith,
+        head_bytes a.s a.lost.now,
+        ps.ensures.value,
+        n1.ensures.value,
+        n2.ensures.value,
+        n3.ensures.value,
+        n4.ensures.value,
+        n5.ensures.value,
+      );
       out_after = head_put a.s a.lost.now a.out.now n1.new.out n2.new.out n3.new.out n4.new.out n5.new.out ps.new.out
           n1.result n2.result n3.result n4.result n5.result
-          n1.ensures.value n1.ensures.out_after n2.ensures.value n2.ensures.out_after n3.ensures.value n3.ensures.out_after n4.ensures.value n4.ensures.out_after
+          n1.ensures.value n1.ensures.out_after n2.ensures.value n2.ensures.out_after n3.ensures.value
+          n3.ensures.out_after n4.ensures.value n4.ensures.out_after
           n5.ensures.value n5.ensures.out_after ps.ensures.out_after;
     }

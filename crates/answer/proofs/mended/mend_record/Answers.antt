@@ -61,7 +61,8 @@ pub slice_bounds-copy-end : goal.slice_bounds-copy-end
 slice_bounds-copy-end c =
     let r = c.read_and_mend-a in
     let a = c.args in
-    sym (length-take-le ((r.result.shape.k + r.result.shape.r) * r.result.shape.l) r.new.held (omega (arith, answer_stripe a.bytes.now r.result r.new.held r.new.list r.ensures c.if-a-ne0.false, ap length c.blank_stripe-held.ensures, blank_long)))
+    sym (length-take-le ((r.result.shape.k + r.result.shape.r) * r.result.shape.l) r.new.held
+    (omega (arith, answer_stripe a.bytes.now r.result r.new.held r.new.list r.ensures c.if-a-ne0.false, ap length c.blank_stripe-held.ensures, blank_long)))
 
 pub slice_bounds-list-end : goal.slice_bounds-list-end
 slice_bounds-list-end c =
@@ -75,7 +76,8 @@ pub slice_bounds-put_list-end : goal.slice_bounds-put_list-end
 slice_bounds-put_list-end c =
     let r = c.read_and_mend-a in
     let a = c.args in
-    sym (length-take-le r.result.lost r.new.list (omega (arith, answer_list a.bytes.now r.result r.new.held r.new.list r.ensures c.if-a-ne0.false, c.blank_list-list.ensures)))
+    sym (length-take-le r.result.lost r.new.list
+    (omega (arith, answer_list a.bytes.now r.result r.new.held r.new.list r.ensures c.if-a-ne0.false, c.blank_list-list.ensures)))
 
 pub put_list-requires : goal.put_list-requires
 put_list-requires c =

@@ -17,7 +17,8 @@ returns-then-got-ne0 c =
     let n = c.if-got-ne0.true in
     worked_refused a.bytes.now _ _ [] g.result.number c.refused.result
     (outcome_unread a.bytes.now 65536 258 g.result.number
-    (number_is a.bytes.now a.held.now a.list.now g.result g.new.stripe g.new.lost c.requires (g.ensures.value, (g.ensures.stripe_after, g.ensures.lost_after))) n) n c.refused.ensures
+    (number_is a.bytes.now a.held.now a.list.now g.result g.new.stripe g.new.lost c.requires
+    (g.ensures.value, (g.ensures.stripe_after, g.ensures.lost_after))) n) n c.refused.ensures
 
 pub overflow_add-n : goal.overflow_add-n
 overflow_add-n c =
@@ -25,7 +26,8 @@ overflow_add-n c =
     let a = c.args in
     omega (
       arith,
-      columns_most a.bytes.now a.held.now a.list.now g.result g.new.stripe g.new.lost c.requires (g.ensures.value, (g.ensures.stripe_after, g.ensures.lost_after))
+      columns_most a.bytes.now a.held.now a.list.now g.result g.new.stripe g.new.lost c.requires
+          (g.ensures.value, (g.ensures.stripe_after, g.ensures.lost_after))
           c.if-got-ne0.false,
     )
 
@@ -35,7 +37,8 @@ overflow_mul-n c =
     let a = c.args in
     omega (
       arith,
-      stripe_most a.bytes.now a.held.now a.list.now g.result g.new.stripe g.new.lost c.requires (g.ensures.value, (g.ensures.stripe_after, g.ensures.lost_after))
+      stripe_most a.bytes.now a.held.now a.list.now g.result g.new.stripe g.new.lost c.requires
+          (g.ensures.value, (g.ensures.stripe_after, g.ensures.lost_after))
           c.if-got-ne0.false,
     )
 
@@ -45,7 +48,8 @@ slice_bounds-mend_listed-end c =
     let a = c.args in
     omega (
       arith,
-      stripe_most a.bytes.now a.held.now a.list.now g.result g.new.stripe g.new.lost c.requires (g.ensures.value, (g.ensures.stripe_after, g.ensures.lost_after))
+      stripe_most a.bytes.now a.held.now a.list.now g.result g.new.stripe g.new.lost c.requires
+          (g.ensures.value, (g.ensures.stripe_after, g.ensures.lost_after))
           c.if-got-ne0.false,
       ap length c.requires.0,
       blank_long,
@@ -58,7 +62,8 @@ slice_bounds-mend_listed-end-2 c =
     sym (length-take-le ((g.result.shape.k + g.result.shape.r) * g.result.shape.l) g.new.stripe
     (omega (
       arith,
-      stripe_most a.bytes.now a.held.now a.list.now g.result g.new.stripe g.new.lost c.requires (g.ensures.value, (g.ensures.stripe_after, g.ensures.lost_after))
+      stripe_most a.bytes.now a.held.now a.list.now g.result g.new.stripe g.new.lost c.requires
+          (g.ensures.value, (g.ensures.stripe_after, g.ensures.lost_after))
           c.if-got-ne0.false,
       ap length c.requires.0,
       blank_long,
@@ -90,7 +95,8 @@ pub mend_listed-number-requires : goal.mend_listed-number-requires
 mend_listed-number-requires c =
     let g = c.read_record-got in
     let a = c.args in
-    let l = list_most a.bytes.now a.held.now a.list.now g.result g.new.stripe g.new.lost c.requires (g.ensures.value, (g.ensures.stripe_after, g.ensures.lost_after))
+    let l = list_most a.bytes.now a.held.now a.list.now g.result g.new.stripe g.new.lost c.requires
+    (g.ensures.value, (g.ensures.stripe_after, g.ensures.lost_after))
     c.if-got-ne0.false in
     omega (arith, l, length-take-le g.result.lost g.new.lost (omega (arith, l, c.requires.1)))
 
@@ -101,7 +107,8 @@ returns-then-number-ne0 c =
     let a = c.args in
     let v = c.mend_listed-number in
     worked_refused a.bytes.now _ _ v.new.stripe v.result c.refused-then-number-ne0.result
-    (mended_outcome a.bytes.now a.held.now a.list.now g.result g.new.stripe g.new.lost c.requires (g.ensures.value, (g.ensures.stripe_after, g.ensures.lost_after)) if1.false
+    (mended_outcome a.bytes.now a.held.now a.list.now g.result g.new.stripe g.new.lost c.requires
+    (g.ensures.value, (g.ensures.stripe_after, g.ensures.lost_after)) if1.false
     v.result v.new.stripe v.ensures) c.if-number-ne0.true c.refused-then-number-ne0.ensures
 
 pub returns : goal.returns
@@ -110,13 +117,15 @@ returns c =
     let a = c.args in
     let v = c.mend_listed-number in
     let z = c.if-got-ne0.false in
-    worked a.bytes.now a.held.now a.list.now g.result g.new.stripe g.new.lost c.requires (g.ensures.value, (g.ensures.stripe_after, g.ensures.lost_after)) z v.result v.new.stripe
+    worked a.bytes.now a.held.now a.list.now g.result g.new.stripe g.new.lost c.requires
+    (g.ensures.value, (g.ensures.stripe_after, g.ensures.lost_after)) z v.result v.new.stripe
     v.ensures c.if-number-ne0.false
     (omega (
       arith,
       length-take-le ((g.result.shape.k + g.result.shape.r) * g.result.shape.l) g.new.stripe (omega (
         arith,
-        stripe_most a.bytes.now a.held.now a.list.now g.result g.new.stripe g.new.lost c.requires (g.ensures.value, (g.ensures.stripe_after, g.ensures.lost_after)) z,
+        stripe_most a.bytes.now a.held.now a.list.now g.result g.new.stripe g.new.lost c.requires
+            (g.ensures.value, (g.ensures.stripe_after, g.ensures.lost_after)) z,
         ap length c.requires.0,
         blank_long,
       )),

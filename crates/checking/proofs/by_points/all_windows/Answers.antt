@@ -46,7 +46,22 @@ pub window-b-requires : goal.window-b-requires
 window-b-requires c =
     let h = c.requires.1 in (
       c.requires.0,
-      (h.0, (h.1.0, (h.1.1, (some (goal.at.window-b-requires c).After-shorter-n, (ends (goal.at.window-b-requires c).After-shorter-n, front_length _ _ (omega (arith, few (goal.at.window-b-requires c).After-shorter-n, c.loop-p.invariant.1))))))),
+      (
+        h.0,
+        (
+          h.1.0,
+          (
+            h.1.1,
+            (
+              some (goal.at.window-b-requires c).After-shorter-n,
+              (
+                ends (goal.at.window-b-requires c).After-shorter-n,
+                front_length _ _ (omega (arith, few (goal.at.window-b-requires c).After-shorter-n, c.loop-p.invariant.1)),
+              ),
+            ),
+          ),
+        ),
+      ),
     )
 
 pub overflow_add-p : goal.overflow_add-p

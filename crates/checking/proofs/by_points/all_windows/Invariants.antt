@@ -3,7 +3,6 @@ use Prim.Native.Nat.{◌-◌, ◌*◌, ◌≤◌}
 use mathlib.Core.Path.{◌≡◌}
 use lib.ListN.{length}
 use Rattle.stripe.specs.Stripe.{parity}
-use Rattle.stripe.proofs.Lent.{lent}
 use Rattle.checking.specs.Windows.{Below}
 use Rattle.checking.proofs.by_points.all_windows.Given as goal
 

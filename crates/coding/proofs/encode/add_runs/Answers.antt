@@ -62,7 +62,8 @@ loop-j-preserved c =
     let at = c.loop-j in
     let m = width (goal.at.loop-j-preserved c).In-loop-j in
     let f = known-here (goal.at.loop-j-preserved c).In-loop-j in
-    let g = added_run a.«data».now a.s.k a.s.l at.j (a.i * m) (a.i * a.s.l + at.j * m) m at.out _ (omega (arith, here (goal.at.loop-j-preserved c).In-loop-j)) (here (goal.at.loop-j-preserved c).In-loop-j).known
+    let g = added_run a.«data».now a.s.k a.s.l at.j (a.i * m) (a.i * a.s.l + at.j * m) m at.out _
+    (omega (arith, here (goal.at.loop-j-preserved c).In-loop-j)) (here (goal.at.loop-j-preserved c).In-loop-j).known
     c.add_row.ensures in (
       search rules,
       search rules,

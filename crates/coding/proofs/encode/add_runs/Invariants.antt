@@ -12,7 +12,8 @@ shape k r t l = record { k = k; r = r; t = t; l = l }
 
 abbrev pub invariant-loop-j : goal.invariant-loop-j
 invariant-loop-j l =
-    (l.r ≤ l.j) × (l.j ≤ l.t) × (l.m ≡ run_length (shape l.k l.r l.t l.l)) × Piggybacked (shape l.k l.r l.t l.l) l.data l.i (l.j * l.m) l.out × Beside l.l l.i l.initial.out l.out
+    (l.r ≤ l.j) × (l.j ≤ l.t) × (l.m ≡ run_length (shape l.k l.r l.t l.l)) × Piggybacked (shape l.k l.r l.t l.l) l.data l.i (l.j * l.m) l.out
+    × Beside l.l l.i l.initial.out l.out
 
 abbrev pub decreases-loop-j : goal.decreases-loop-j
 decreases-loop-j l = l.t - l.j

@@ -34,7 +34,8 @@ loop-i-preserved c =
     let at = c.loop-i in
     let some : 0 < at.i = c.loop-i-test.true in
     let below : at.i - 1 < c.args.n = omega (arith, at.invariant.0) in
-    let room : c.args.from + (at.i - 1) * c.args.stride + length at.row ≤ length c.args.d.now = omega (arith, inside (goal.at.loop-i-preserved c).In-loop-i, at.invariant.1.long) in
+    let room : c.args.from + (at.i - 1) * c.args.stride + length at.row ≤ length c.args.d.now = omega
+    (arith, inside (goal.at.loop-i-preserved c).In-loop-i, at.invariant.1.long) in
     let here : at.i ≡ at.i - 1 + 1 = omega arith in
     let a = c.args in
     let was = subst (λ (x : ℕ). RowFrom a.e a.d.now a.from a.stride a.n (length a.row.now) x at.row) here at.invariant.1 in (

@@ -7,7 +7,8 @@ use Rattle.matrix.proofs.one.odd.Given as goal
 
 abbrev pub invariant-loop-i : goal.invariant-loop-i
 invariant-loop-i l =
-    (l.i ≤ length l.cs) × (length l.ls ≡ length l.initial.ls) × Listed (λ k. get_or l.p k 0 % 2) l.cs l.i l.at l.n l.ls × ((k : ℕ) → k < l.at → get_or l.ls k 0 ≡ get_or l.initial.ls k 0)
+    (l.i ≤ length l.cs) × (length l.ls ≡ length l.initial.ls) × Listed (λ k. get_or l.p k 0 % 2) l.cs l.i l.at l.n l.ls
+    × ((k : ℕ) → k < l.at → get_or l.ls k 0 ≡ get_or l.initial.ls k 0)
 
 abbrev pub decreases-loop-i : goal.decreases-loop-i
 decreases-loop-i l = length l.cs - l.i

@@ -11,7 +11,8 @@ use Rattle.mending.proofs.run.solve_runs.Given as goal
 
 abbrev pub invariant-loop-b : goal.invariant-loop-b
 invariant-loop-b l =
-    (l.b ≤ runs l.s) × ((length l.slots ≡ length l.initial.slots) × (Bytes l.slots × ((xs : List ℕ) → Bytes xs → Syndromes l.s l.p.pivot xs l.initial.slots → SolvedBelow l.s l.p xs l.b l.slots)))
+    (l.b ≤ runs l.s) × ((length l.slots ≡ length l.initial.slots)
+    × (Bytes l.slots × ((xs : List ℕ) → Bytes xs → Syndromes l.s l.p.pivot xs l.initial.slots → SolvedBelow l.s l.p xs l.b l.slots)))
 
 abbrev pub decreases-loop-b : goal.decreases-loop-b
 decreases-loop-b l = runs l.s - l.b

@@ -2,10 +2,7 @@
 use Prim.Native.Nat.{ℕ, ◌-◌, ◌≤◌, ◌<◌}
 use mathlib.Core.Path.{◌≡◌}
 use lib.ListN.{get_or}
-use denote.Struct.Laws as LL
 use Rattle.stripe.specs.Shape.{most_rows}
-use Rattle.mending.specs.contracts.few.Few as T
-use Rattle.mending.proofs.few.Few.TheLaws as T'
 use Rattle.mending.proofs.survivors.is_lost.Given as goal
 
 abbrev pub invariant-loop-v : goal.invariant-loop-v

@@ -9,7 +9,10 @@ use Rattle.record.proofs.read.fill.Goals as goal
 pub fill_lost-requires : goal.fill_lost-requires
 fill_lost-requires c = let a = c.args in
     let p = c.requires in
-    record { m_in_bounds = omega (arith, fill_few a.bytes.now a.shape a.m a.first a.end p.end_value); by_index = fill_small a.bytes.now a.shape a.m a.first a.end p.end_value }
+    record {
+      m_in_bounds = omega (arith, fill_few a.bytes.now a.shape a.m a.first a.end p.end_value);
+      by_index = fill_small a.bytes.now a.shape a.m a.first a.end p.end_value;
+    }
 
 pub slice_bounds-fill_columns-count : goal.slice_bounds-fill_columns-count
 slice_bounds-fill_columns-count c =

@@ -5,7 +5,8 @@ use Rattle.record.proofs.read.judge_positions.Given as goal
 
 abbrev pub invariant-loop-left : goal.invariant-loop-left
 invariant-loop-left l =
-    (positions_refusal l.s l.n l.left l.least l.at ≡ positions_refusal l.s l.n l.m 0 l.first) × (after_positions l.s l.left l.at ≡ after_positions l.s l.m l.first)
+    (positions_refusal l.s l.n l.left l.least l.at ≡ positions_refusal l.s l.n l.m 0 l.first)
+    × (after_positions l.s l.left l.at ≡ after_positions l.s l.m l.first)
 
 abbrev pub decreases-loop-left : goal.decreases-loop-left
 decreases-loop-left l = l.left

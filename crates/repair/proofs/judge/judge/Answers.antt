@@ -50,7 +50,10 @@ judge_window-requires c = (c.requires.0, window (goal.at.judge_window-requires c
 pub returns-then-not-judge_window : goal.returns-then-not-judge_window
 returns-then-not-judge_window c =
     let no = c.judge_window.ensures.not_so (c.if-not-judge_window.true) in
-    record { so = λ y. absurd (true≢false (sym y)); not_so = λ y g. no (holds_part _ _ _ _ c.loop-at.at _ (window (goal.at.returns-then-not-judge_window c).After-shorter-n).ends g) }
+    record {
+      so = λ y. absurd (true≢false (sym y));
+      not_so = λ y g. no (holds_part _ _ _ _ c.loop-at.at _ (window (goal.at.returns-then-not-judge_window c).After-shorter-n).ends g);
+    }
 
 pub loop-at-smaller : goal.loop-at-smaller
 loop-at-smaller c =

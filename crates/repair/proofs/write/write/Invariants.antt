@@ -7,7 +7,8 @@ use Rattle.repair.proofs.write.write.Given as goal
 
 abbrev pub invariant-loop-at : goal.invariant-loop-at
 invariant-loop-at l =
-    (l.at ≤ l.l) × (length l.made ≡ length l.initial.made) × Put (row_byte l.w l.from l.initial.stripe l.l) l.to (length l.to) l.l 0 l.at l.initial.stripe l.stripe
+    (l.at ≤ l.l) × (length l.made ≡ length l.initial.made)
+    × Put (row_byte l.w l.from l.initial.stripe l.l) l.to (length l.to) l.l 0 l.at l.initial.stripe l.stripe
 
 abbrev pub decreases-loop-at : goal.decreases-loop-at
 decreases-loop-at l = l.l - l.at

@@ -26,7 +26,8 @@ loop-o-preserved c =
     let more : 14 - (at.o - 64) / 64 ≡ suc (14 - at.o / 64) = omega (arith, most, at.invariant.0) in (
       omega (arith, at.invariant.0),
       omega (arith, most, at.invariant.1),
-      turn_here _ _ _ _ _ _ _ _ _ _ known most (omega (arith, at.invariant.0, c.requires)) more at.invariant.2 (c.one_more.ensures.row0_after, (c.one_more.ensures.row1_after, c.one_more.ensures.row2_after)),
+      turn_here _ _ _ _ _ _ _ _ _ _ known most (omega (arith, at.invariant.0, c.requires)) more at.invariant.2
+          (c.one_more.ensures.row0_after, (c.one_more.ensures.row1_after, c.one_more.ensures.row2_after)),
     )
 
 pub returns : goal.returns

@@ -31,7 +31,8 @@ part-requires-then-at-k-2 c =
     within (a.at - a.s.k) a.s.r a.s.l (length a.parity.now) c.if-at-k-2.true e.parity_long
 
 pub returns-then-at-k-2 : goal.returns-then-at-k-2
-returns-then-at-k-2 c = c.part-then-at-k-2.ensures ∙ sym (column_parity _ _ _ _ (passed (goal.at.returns-then-at-k-2 c).Else-lent_refusal-ne0) (omega arith) (omega arith))
+returns-then-at-k-2 c = c.part-then-at-k-2.ensures
+    ∙ sym (column_parity _ _ _ _ (passed (goal.at.returns-then-at-k-2 c).Else-lent_refusal-ne0) (omega arith) (omega arith))
 
 pub returns : goal.returns
 returns c = sym (column_past _ _ _ _ (passed (goal.at.returns c).Else-lent_refusal-ne0) (omega arith))

@@ -21,7 +21,8 @@ loop-b-init c =
     let h = c.requires in (
       omega arith,
       omega arith,
-      elim c.if-b-gt0.branch [ then-b-gt0 w ↦ rows_by (omega arith) w.out-is w.add_row2.ensures | else-b-gt0 w ↦ rows_by (omega (arith, w.if-b-gt0.false)) w.out-is h.1 ],
+      elim c.if-b-gt0.branch
+          [ then-b-gt0 w ↦ rows_by (omega arith) w.out-is w.add_row2.ensures | else-b-gt0 w ↦ rows_by (omega (arith, w.if-b-gt0.false)) w.out-is h.1 ],
     )
 
 pub add_rows-requires-in-loop-b : goal.add_rows-requires-in-loop-b

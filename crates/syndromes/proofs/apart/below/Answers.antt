@@ -43,7 +43,8 @@ loop-i-preserved c =
       search rules,
       omega arith,
       turn _ _ _ _ _ _ 0 _ _ _ _ _ back_0 known (omega arith) at.invariant.1 (within (goal.at.loop-i-preserved c).In-loop-i).0 at.invariant.2 c.add.ensures,
-      turn _ _ _ _ _ _ 1 _ _ _ _ _ back_1 known (omega arith) at.invariant.1 (within (goal.at.loop-i-preserved c).In-loop-i).0 at.invariant.3 c.halve_add.ensures,
+      turn _ _ _ _ _ _ 1 _ _ _ _ _ back_1 known (omega arith) at.invariant.1
+          (within (goal.at.loop-i-preserved c).In-loop-i).0 at.invariant.3 c.halve_add.ensures,
     )
 
 pub returns : goal.returns

@@ -45,7 +45,8 @@ loop-i-preserved c =
     let known : Bytes a.stripe.now = λ i. (c.shared_slice_known-1.given i).fits in (
       search rules,
       omega arith,
-      turn _ _ _ _ _ _ 2 _ _ _ _ _ back_2 known (omega arith) at.invariant.1 (within (goal.at.loop-i-preserved c).In-loop-i).0 at.invariant.2 c.quarter_add.ensures,
+      turn _ _ _ _ _ _ 2 _ _ _ _ _ back_2 known (omega arith) at.invariant.1
+          (within (goal.at.loop-i-preserved c).In-loop-i).0 at.invariant.2 c.quarter_add.ensures,
     )
 
 pub returns : goal.returns

@@ -58,7 +58,8 @@ put_number-requires c =
     let r1 = rest_room c.args.out.now c.args.at stripe_word (from_k c.args.s) c.requires v1.new.out v1.result (v1.ensures.value, v1.ensures.out_after) in
     let r2 = rest_room v1.new.out v1.result (number_then c.args.s.k 32) (from_r c.args.s) r1 v2.new.out v2.result (v2.ensures.value, v2.ensures.out_after) in
     let r3 = rest_room v2.new.out v2.result (number_then c.args.s.r 32) (from_t c.args.s) r2 v3.new.out v3.result (v3.ensures.value, v3.ensures.out_after) in
-    let r4 = rest_room v3.new.out v3.result (number_then c.args.s.t 32) (number_then c.args.s.l 10) r3 v4.new.out v4.result (v4.ensures.value, v4.ensures.out_after) in
+    let r4 = rest_room v3.new.out v3.result (number_then c.args.s.t 32) (number_then c.args.s.l 10) r3 v4.new.out v4.result
+    (v4.ensures.value, v4.ensures.out_after) in
     r4
 
 pub returns : goal.returns

@@ -10,7 +10,8 @@ abbrev pub invariant-loop-c : goal.invariant-loop-c
 invariant-loop-c l =
     (l.c ≤ l.n)
     × ((l.from ≡ l.c * l.l)
-    × ((l.next ≡ l.at + length (column_lines l.l l.lost 0 l.c l.stripe)) × ((length l.out ≡ length l.initial.out) × (l.out ≡ over l.initial.out l.at (column_lines l.l l.lost 0 l.c l.stripe)))))
+    × ((l.next ≡ l.at + length (column_lines l.l l.lost 0 l.c l.stripe))
+    × ((length l.out ≡ length l.initial.out) × (l.out ≡ over l.initial.out l.at (column_lines l.l l.lost 0 l.c l.stripe)))))
 
 abbrev pub decreases-loop-c : goal.decreases-loop-c
 decreases-loop-c l = l.n - l.c

@@ -11,7 +11,11 @@ put_decimal-next-requires c = front_room c.args.out.now c.args.at (decimal c.arg
 pub put_byte-requires : goal.put_byte-requires
 put_byte-requires c =
     let d = c.put_decimal-next in
-    omega (arith, rest_room c.args.out.now c.args.at (decimal c.args.n) (c.args.after ∷ []) c.requires d.new.out d.result (d.ensures.value, d.ensures.out_after))
+    omega (
+      arith,
+      rest_room c.args.out.now c.args.at (decimal c.args.n) (c.args.after ∷ []) c.requires d.new.out d.result
+          (d.ensures.value, d.ensures.out_after),
+    )
 
 pub returns : goal.returns
 returns c = let d = c.put_decimal-next in

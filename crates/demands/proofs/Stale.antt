@@ -11,7 +11,7 @@ use Rattle.field.specs.Bytes.{Bytes, tabulate}
 use Rattle.field.specs.Row.{row, row_from}
 use Rattle.stripe.specs.declared.Shape.{Shape}
 use Rattle.stripe.specs.Shape.{shape_refusal, stripe_length}
-use Rattle.stripe.specs.Stripe.{by_points, across, row_at, run_length, piggyback, parity_byte, parity, data_of, Codeword}
+use Rattle.stripe.specs.Stripe.{by_points, across, row_at, run_length, piggyback, parity_byte, data_of, Codeword}
 use Rattle.stripe.proofs.Codewords.{codeword_checks}
 use Rattle.plan.specs.Plan.{fold_refusal, kind_of, plan, wide_shape}
 use Rattle.fold.specs.Fold.{parity_named, cut_out, wide_data}

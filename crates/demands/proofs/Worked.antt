@@ -22,7 +22,7 @@ use Rattle.stripe.proofs.Mended.{word_below, wanted, word_at, data_mended, strip
 use Rattle.stripe.proofs.Determined.{mendable}
 use Rattle.stripe.proofs.Codewords.{codeword_of}
 use Rattle.lost.specs.Positions.{positions, list_refusal}
-use Rattle.mending.specs.Mend.{mend_refusal, Restored, Mended}
+use Rattle.mending.specs.Mend.{mend_refusal, Mended}
 use Rattle.plan.specs.Plan.{fold_refusal, kind_of, column_spans, kind_spans, spans_from, plan, columns_each, bytes_each, columns_read, bytes_read}
 use Rattle.plan.specs.Plan.{columns_written, bytes_written}
 use Rattle.equations.specs.Whole.{fold_columns}

@@ -1,5 +1,5 @@
 -- Records, for C: each outcome of reading and of writing is that of the function below, which is refused or not.
-use Prim.Native.Nat.{ℕ, zero, suc}
+use Prim.Native.Nat.{ℕ}
 use mathlib.Core.Path.{◌≡◌, refl, sym, ap, ◌∙◌}
 use mathlib.Core.Bool.{cond}
 use mathlib.Core.Logic.{◌⊎◌, inl, inr}
@@ -11,7 +11,6 @@ use lib.ListN.{length, set}
 use Rattle.field.proofs.Cases.{zero_or_not}
 use Rattle.stripe.specs.declared.Shape.{Shape}
 use Rattle.record.specs.declared.read.Got.{Got}
-use Rattle.record.specs.Layout.{record_of}
 use Rattle.record.specs.Reading.{read_refusal, got_of, stripe_read, lost_read}
 use Rattle.writing.specs.declared.Written.{Written}
 use Rattle.writing.specs.Writing.{write_refusal, written_of, out_written}

@@ -1,5 +1,5 @@
 -- `shelf_check` meets its contract: what it leaves is told by the answer of the check.
-use mathlib.Core.Path.{refl, sym, ◌∙◌}
+use mathlib.Core.Path.{refl}
 use native.Mathlib.Omega.{arith}
 use Rattle.checking.specs.declared.Wrong.TheVariants.{Nowhere, At, Refused}
 use Rattle.shelf.proofs.Checked.{leaves, named_within}

@@ -39,7 +39,10 @@ def of_function(line, name, copy):
     place = re.search(r'\b(src/\S+\.rt):(\d+):', line)
     if not place:
         return False
-    head = open(f'{copy}/{place.group(1)}', encoding='utf-8').read().split('\n')[:int(place.group(2))]
+    lines, n = open(f'{copy}/{place.group(1)}', encoding='utf-8').read().split('\n'), int(place.group(2))
+    while re.match(r'\s*(#\[|//)', lines[n - 1]):          # a function begins at its attributes
+        n += 1
+    head = lines[:n]
     within = [m.group(1) for l in head for m in [re.search(r'^\s*(?:pub(?:\(crate\))? )?(?:extern "C" )?fn (\w+)', l)] if m]
     owner = [m.group(1) for l in head for m in [re.search(r'^(?:impl (\w+)|\})', l)] if m]
     return [last] == within[-1:] and (not (owner and owner[-1]) or owner[-1] in folders)

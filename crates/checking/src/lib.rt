@@ -1,6 +1,6 @@
 // The check of a stripe: where its parity first disagrees with the parity by definition. First it is asked whether the parity agrees at
-// all, and then, if it does not, where. With r up to 3 that is done in `by_rows`, and with r above 3 in `by_points`. Each of the two keeps a
-// stack frame of its own (`inline(never)`), so their buffers never stand on the stack together.
+// all, and then, if it does not, where. With r up to 3 that is done in `by_rows`, and with r above 3 in `by_points`. Each of the two keeps
+// a stack frame of its own (`inline(never)`), so their buffers never stand on the stack together.
 #![tactic(auto)]
 
 mod by_points;

@@ -33,7 +33,8 @@ use Rattle.record.specs.declared.read.Got.{Got}
 use Rattle.writing.specs.declared.Written.{Written}
 use Rattle.record.specs.Layout.{record_of, survivors, restored}
 use Rattle.writing.specs.Writing.{LaidOut}
-use Rattle.record.specs.Reading.{shape_read, first_of, unless, count_of, lost_listed, columns_filled, positions_filled, stripe_refusal, content_refusal, read_refusal}
+use Rattle.record.specs.Reading.{shape_read, first_of, unless, count_of, lost_listed, columns_filled, positions_filled}
+use Rattle.record.specs.Reading.{stripe_refusal, content_refusal, read_refusal}
 use Rattle.record.specs.Reading.{got_of}
 use Rattle.writing.specs.Writing.{write_refusal}
 use Rattle.answer.specs.declared.mended.Answer.{Answer}

@@ -157,7 +157,8 @@ module _ (s : Shape) where
     pub spans_table_lem : (room : ℕ) → spans_refusal s n f room ≡ first_of (spans_table s n f room)
     unfolding spans_refusal
     spans_table_lem room =
-        after (plan_table s n f []) (unless (leb (columns_read s n f) room) 5 ∷ []) (fold_refusal s n f) (cond (ltb room (columns_read s n f)) 5 0) plan_table_lem
+        after (plan_table s n f []) (unless (leb (columns_read s n f) room) 5 ∷ []) (fold_refusal s n f)
+        (cond (ltb room (columns_read s n f)) 5 0) plan_table_lem
         (short room (columns_read s n f))
 
   -- ---- records

@@ -115,8 +115,10 @@ stale_accepted =
 
 pub worked_hold : AllHold worked
 unfolding worked AllHold Holds ◌⊗◌ shifted doubled ◌⊕◌ gpow power by_points parity parity_byte piggyback run_length row_at across tabulate row row_from groups
-    groups_at first_of head_refusal content_refusal positions_refusal after_positions stripe_refusal read_refusal shape_refusal fold_refusal kind_of column_spans
-    kind_spans spans_from plan columns_each bytes_each columns_read bytes_read read_parity read_row run_share share fold_byte fold_by_rows fold_stripes parts fold_of
+    groups_at first_of head_refusal content_refusal positions_refusal after_positions stripe_refusal
+    read_refusal shape_refusal fold_refusal kind_of column_spans
+    kind_spans spans_from plan columns_each bytes_each columns_read bytes_read read_parity read_row
+    run_share share fold_byte fold_by_rows fold_stripes parts fold_of
     named cut_out
 worked_hold = (
   refl,

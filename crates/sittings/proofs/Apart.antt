@@ -31,7 +31,8 @@ unfolding at_once joined wide_stripe wide_data fold_of fold_stripes fold_by_rows
 second_at_once = refl
 
 pub second_in_two : in_two two_rows 2 1 2 2 stale_second ≡ 0 ∷ 0 ∷ 0 ∷ 0 ∷ 0 ∷ 0 ∷ 0 ∷ 0 ∷ 0x00 ∷ 0x00 ∷ []
-unfolding in_two halves joined wide_stripe wide_data fold_of fold_stripes fold_by_rows fold_byte share parts named cut_out plan spans_from kind_spans column_spans
+unfolding in_two halves joined wide_stripe wide_data fold_of fold_stripes fold_by_rows fold_byte share
+    parts named cut_out plan spans_from kind_spans column_spans
     bytes_each kind_of by_points fold_refusal shape_refusal across tabulate row row_from gpow power ◌⊗◌ shifted doubled ◌⊕◌
 second_in_two = refl
 
@@ -53,7 +54,8 @@ unfolding at_once joined wide_stripe wide_data fold_of fold_stripes fold_by_rows
 first_at_once = refl
 
 pub first_in_two : in_two one_row 2 2 2 1 stale_first ≡ 0 ∷ 0 ∷ 0 ∷ 0 ∷ 0 ∷ 0 ∷ 0 ∷ 0 ∷ 0x00 ∷ []
-unfolding in_two halves joined wide_stripe wide_data fold_of fold_stripes fold_by_rows fold_byte share parts named cut_out plan spans_from kind_spans column_spans
+unfolding in_two halves joined wide_stripe wide_data fold_of fold_stripes fold_by_rows fold_byte share
+    parts named cut_out plan spans_from kind_spans column_spans
     bytes_each kind_of by_points fold_refusal shape_refusal across tabulate row row_from gpow power ◌⊗◌ shifted doubled ◌⊕◌
 first_in_two = refl
 
@@ -62,6 +64,7 @@ first_apart e = let h : ◌≡◌ {A = ℕ} 0 1 = ap (λ (xs : List ℕ). get_or
 
 -- The same stripes without a step of kind C, as `Same.a-a` has it: both times f = 2, and the stale byte shows.
 pub second_shows : in_two two_rows 2 2 2 2 stale_second ≡ at_once two_rows 4 2 stale_second
-unfolding in_two at_once halves joined wide_stripe wide_data fold_of fold_stripes fold_by_rows fold_byte share parts named cut_out plan spans_from kind_spans column_spans
+unfolding in_two at_once halves joined wide_stripe wide_data fold_of fold_stripes fold_by_rows fold_byte
+    share parts named cut_out plan spans_from kind_spans column_spans
     bytes_each kind_of by_points fold_refusal shape_refusal across tabulate row row_from gpow power ◌⊗◌ shifted doubled ◌⊕◌
 second_shows = refl

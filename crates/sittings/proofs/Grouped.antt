@@ -34,7 +34,8 @@ pub every : (P : List ℕ → Type 0) (gs : List (List (List ℕ)))
 every P gs h = each_at P [] (joined gs) (each_joined P gs (each_from (Each P) [] gs (λ i hi. each_from P [] (get_or gs i []) (λ x hx. h i x hi hx))))
 
 -- how many stripes there are
-pub all_count : (n₁ n₂ : ℕ) (gs : List (List (List ℕ))) → length gs ≡ n₂ → ((i : ℕ) → i < length gs → length (get_or gs i []) ≡ n₁) → length (joined gs) ≡ n₁ * n₂
+pub all_count : (n₁ n₂ : ℕ) (gs : List (List (List ℕ))) → length gs ≡ n₂
+    → ((i : ℕ) → i < length gs → length (get_or gs i []) ≡ n₁) → length (joined gs) ≡ n₁ * n₂
 all_count n₁ n₂ gs many each = joined_length n₁ gs each ∙ ap (λ (x : ℕ). x * n₁) many ∙ mul_comm n₂ n₁
 
 -- ---- their data

@@ -11,8 +11,8 @@ use Rattle.lanes.specs.Lanes.{onto}
 use Rattle.lanes.proofs.Onto.{onto_at}
 
 -- past the first list
-get_d_past : (xs ys : List ℕ) (i : ℕ) → length xs ≤ i → get_or (xs ++ ys) i 0 ≡ get_or ys (i - length xs) 0
-get_d_past xs ys i h = subst (λ (k : ℕ). get_or (xs ++ ys) k 0 ≡ get_or ys (i - length xs) 0) (omega arith) (get_or-append-add xs ys (i - length xs) 0)
+get_or_past : (xs ys : List ℕ) (i : ℕ) → length xs ≤ i → get_or (xs ++ ys) i 0 ≡ get_or ys (i - length xs) 0
+get_or_past xs ys i h = subst (λ (k : ℕ). get_or (xs ++ ys) k 0 ≡ get_or ys (i - length xs) 0) (omega arith) (get_or-append-add xs ys (i - length xs) 0)
 
 -- a part of n bytes, from s on
 pub part_length : (xs : List ℕ) (s n : ℕ) → s + n ≤ length xs → length (take (s + n - s) (drop s xs)) ≡ n
@@ -42,7 +42,7 @@ module _ (xs ys : List ℕ) (a n : ℕ) (long : length ys ≡ n) (fits : a + n �
   back_length = simp (length-append, length-drop, head_length) (omega arith)
 
   after_head : (i : ℕ) → a ≤ i → get_or back i 0 ≡ get_or rest (i - a) 0
-  after_head i h = get_d_past (take a xs) rest i (omega (arith, head_length)) ∙ ap (λ (m : ℕ). get_or rest (i - m) 0) head_length
+  after_head i h = get_or_past (take a xs) rest i (omega (arith, head_length)) ∙ ap (λ (m : ℕ). get_or rest (i - m) 0) head_length
 
   pub back_inside : (q : ℕ) → q < n → get_or back (a + q) 0 ≡ get_or ys q 0
   back_inside q h =
@@ -54,5 +54,5 @@ module _ (xs ys : List ℕ) (a n : ℕ) (long : length ys ≡ n) (fits : a + n �
   pub back_outside : (i : ℕ) → (i < a) ⊎ (a + n ≤ i) → get_or back i 0 ≡ get_or xs i 0
   back_outside i (inl h) = get_or-append (take a xs) _ 0 i (omega (arith, head_length)) ∙ get_or-take a xs i 0 h
   back_outside i (inr h) =
-      after_head i (omega arith) ∙ get_d_past ys _ (i - a) (omega arith) ∙ get_or-drop (a + n - a) (drop a xs) (i - a - length ys) 0
+      after_head i (omega arith) ∙ get_or_past ys _ (i - a) (omega arith) ∙ get_or-drop (a + n - a) (drop a xs) (i - a - length ys) 0
       ∙ get_or-drop a xs (a + n - a + (i - a - length ys)) 0 ∙ ap (λ (m : ℕ). get_or xs m 0) (index i h)

@@ -77,7 +77,7 @@ check_sum-lt s ds ps = add-lt 8 _ _ (row_lt s ds) (parity_sum-lt s ps)
 
 pub fold_sum-lt : (k s : ℕ) (pss : List (List ℕ)) → fold_sum k s pss < 256
 unfolding fold_sum
-fold_sum-lt k s pss = row_lt (k * s) (map (parity_sum s) pss)
+fold_sum-lt k s pss = row_lt _ _
 
 pub fold_sum-append : (k s : ℕ) (pss qss : List (List ℕ))
     → fold_sum k s (pss ++ qss) ≡ fold_sum k s pss ⊕ gpow (length pss * (k * s)) ⊗ fold_sum k s qss
@@ -97,11 +97,11 @@ one_more k s ps pss = row_cons (k * s) (parity_sum s ps) (map (parity_sum s) pss
 
 pub fold_length : (k r : ℕ) (pss : List (List ℕ)) → length (fold_parity k r pss) ≡ r
 unfolding fold_parity
-fold_length k r pss = parity_solution_length r (λ s. fold_sum k s pss)
+fold_length k r pss = parity_solution_length r _
 
 pub fold_bytes : (k r : ℕ) (pss : List (List ℕ)) → Bytes (fold_parity k r pss)
 unfolding fold_parity
-fold_bytes k r pss = solve_at_bytes (parity_points r) (λ s. fold_sum k s pss)
+fold_bytes k r pss = solve_at_bytes (parity_points r) _
 
 -- the new parity has them
 pub fold_sums : (k r : ℕ) (pss : List (List ℕ)) → r ≤ 255 → (s : ℕ) → s < r → parity_sum s (fold_parity k r pss) ≡ fold_sum k s pss

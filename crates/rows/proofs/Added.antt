@@ -99,13 +99,13 @@ module _ (xs : List ℕ) (k l j from : ℕ) where
       added_places qs is =
           record {
             long = ap length is' ∙ onto-length (λ (x y : ℕ). x ⊕ y) ps _;
-            inside = λ q h. ap₂ get_d_of is' (ℕ-zero-add q) ∙ sum_at_lem q h
+            inside = λ q h. ap₂ get_or_of is' (ℕ-zero-add q) ∙ sum_at_lem q h
                 ∙ sym (ap (λ (x : ℕ). get_or ps x 0 ⊕ row j (across xs l (from + q) 0 k)) (ℕ-zero-add q));
             outside = outside;
           }
         where
-          get_d_of : List ℕ → ℕ → ℕ
-          get_d_of zs i = get_or zs i 0
+          get_or_of : List ℕ → ℕ → ℕ
+          get_or_of zs i = get_or zs i 0
 
           is' : qs ≡ sum
           is' = is ∙ added_sum

@@ -8,15 +8,20 @@ use native.Mathlib.Omega.{arith}
 use borrow.Author.Tests.{ne_eqb, leb-true, leb-false}
 use lib.Dec.{eqb, leb}
 use lib.ListN.{length}
+use Rattle.std.specs.Prelude.{IsErrAnd}
+use Rattle.std.specs.declared.result.Result.{Result}
+use Rattle.std.specs.declared.result.Result.TheVariants.{Ok, Err}
+use Rattle.stripe.specs.declared.refusal.Refusal.{Refusal}
+use Rattle.stripe.specs.Refusal.{refusal_number}
+use Rattle.record.specs.declared.read.Read.{Read}
 use Rattle.stripe.specs.Shape.{no_shape}
 use Rattle.field.proofs.Cases.{zero_or_not}
-use Rattle.record.specs.Reading.{read_refusal, shape_read, count_of, lost_listed}
+use Rattle.record.specs.Reading.{reported, read_refusal, shape_read, count_of, lost_listed}
 use Rattle.mending.specs.Mend.{Mended}
 use Rattle.mending.proofs.Outcome.{mended-one}
-use Rattle.answer.specs.declared.mended.Answer.{Answer}
 use Rattle.field.specs.Bytes.{over}
 use Rattle.text.specs.Text.{stripe_text, refusal_text, refusal_printed, text_room}
-use Rattle.answer.specs.Answer.{pairs, described, RecordMended, answer_of, Worked, Answered, TextOf, Printed}
+use Rattle.answer.specs.Answer.{Answer, pairs, described, RecordMended, answer_of, Worked, Answered, TextOf, Printed}
 use Rattle.field.proofs.Over.{over_least}
 use Rattle.text.proofs.Printed.{printed_refusal}
 
@@ -125,3 +130,8 @@ pub printed_short : (bs out : List ℕ) (v : ℕ) (out' : List ℕ) → Printed 
 printed_short bs out v out' p room =
     let f = p.roomy room in
     omega (arith, f.long, ap length f.bytes, over_least out 0 f.text)
+
+-- what `?` hands on reports the refusal
+pub reported_on : (r : Result Read Refusal) (e : Refusal) → IsErrAnd r (λ w. w ≡ e) → reported r ≡ refused_answer (refusal_number e)
+reported_on (Ok x) e h = absurd h
+reported_on (Err w) e h = ap (λ (v : Refusal). refused_answer (refusal_number v)) h

@@ -8,8 +8,7 @@ use borrow.Author.Tests.{eqb-true, eq-eqb, ne_eqb}
 use lib.Dec.{eqb, leb}
 use lib.ListN.{length, length-replicate}
 use Rattle.stripe.specs.Shape.{shape_refusal, no_shape}
-use Rattle.record.specs.declared.read.Got.{Got}
-use Rattle.record.specs.Reading.{first_of, unless, stripe_refusal, content_refusal, read_refusal, got_of, shape_read, count_of}
+use Rattle.record.specs.Reading.{Got, first_of, unless, stripe_refusal, content_refusal, read_refusal, got_of, shape_read, count_of}
 use Rattle.record.proofs.Refusals.{first_zero, head_described}
 use Rattle.record.proofs.Accepted.{Accepted, accepted}
 use Rattle.answer.specs.Answer.{blank_stripe}

@@ -11,15 +11,13 @@ use lib.Seq.{take_at}
 use Rattle.field.proofs.Cases.{zero_or_not}
 use Rattle.stripe.specs.declared.Shape.{Shape}
 use Rattle.stripe.specs.Shape.{shape_refusal, columns, stripe_length}
-use Rattle.record.specs.declared.read.Got.{Got}
-use Rattle.record.specs.Reading.{read_refusal, got_of, stripe_read, lost_read, shape_read, count_of, lost_listed, columns_filled, positions_filled}
+use Rattle.record.specs.Reading.{Got, read_refusal, got_of, stripe_read, lost_read, shape_read, count_of, lost_listed, columns_filled, positions_filled}
 use Rattle.record.proofs.Listing.{positions-length}
 use Rattle.mending.specs.Mend.{Mended}
-use Rattle.answer.specs.declared.mended.Answer.{Answer}
 use Rattle.field.specs.Bytes.{over}
 use Rattle.field.proofs.Over.{over_front}
 use Rattle.text.specs.Text.{stripe_text, refusal_text, printable, stripe_printed, text_room}
-use Rattle.answer.specs.Answer.{pairs, blank_stripe, described, RecordMended, answer_of, Worked, Answered, Printed}
+use Rattle.answer.specs.Answer.{Answer, pairs, blank_stripe, described, RecordMended, answer_of, Worked, Answered, Printed}
 use Rattle.answer.proofs.Reading.{blank_long, whole, got_number, got_whole, read_says, count_most, read_shaped}
 use Rattle.text.proofs.Printed.{printed}
 use Rattle.answer.proofs.Outcome.{outcome_read, outcome_lent, printed_front}

@@ -2,9 +2,8 @@
 -- all of reading's refusals; then it is mended.
 use Rattle.std.specs.Prelude.{ℕ, ◌%◌, ◌/◌, ◌≤◌, ◌<◌, ◌≡◌, cond, List, [], ◌∷◌, eqb, length, take, replicate}
 use Rattle.stripe.specs.Shape.{stripe_length, no_shape}
-use Rattle.record.specs.Reading.{read_refusal, shape_read, count_of, lost_listed, columns_filled}
+use Rattle.record.specs.Reading.{Got, read_refusal, shape_read, count_of, lost_listed, columns_filled}
 use Rattle.mending.specs.Mend.{Mended}
-use Rattle.answer.specs.declared.mended.Answer.{Answer}
 use Rattle.field.specs.Bytes.{over}
 use Rattle.text.specs.Text.{stripe_text, refusal_text, text_room}
 
@@ -25,6 +24,10 @@ described bs = take (stripe_length (shape_read bs)) (columns_filled bs blank_str
 pub record RecordMended (bs : List ℕ) (stripeRoom lostRoom v : ℕ) (ys : List ℕ) : Type 0 where
   pub unread : (read_refusal bs stripeRoom lostRoom ≡ 0 → ⊥) → (v ≡ read_refusal bs stripeRoom lostRoom) × (ys ≡ [])
   pub read_whole : read_refusal bs stripeRoom lostRoom ≡ 0 → Mended (shape_read bs) (pairs (lost_listed bs)) (described bs) v ys
+
+-- what mending a record reports, which is what reading one does: a number, the shape and the number of lost columns
+abbrev pub Answer : Type 0
+Answer = Got
 
 -- what is reported with a number: the shape and the number of lost columns, zeros with a refusal
 abbrev pub answer_of : List ℕ → ℕ → Answer

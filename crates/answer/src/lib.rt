@@ -1,8 +1,8 @@
 // The answer of the mending program: the text that it prints, written over the front of what is lent; what follows stays. The answer
-// is the length of the text; where there is no room for it, it is 0, and nothing is written.
+// is the length of the text; where there is no room for it, it is 0, and nothing is written (`Printed`): no Option, as in `text`.
 #![tactic(auto)]
 
-use crate::mended::{blank_list, blank_stripe, read_and_mend};
+use crate::mended::read_and_mend;
 use text::{write_refusal, write_text};
 
 pub mod mended;
@@ -16,13 +16,14 @@ pub fn answer(bytes: &[u8], out: &mut [u8]) -> usize
     if out.len() < 140000 {
         return 0;
     }
-    let mut held = blank_stripe();
-    let mut list = blank_list();
-    let a = read_and_mend(bytes, &mut held, &mut list);
-    if a.number != 0 {
-        return write_refusal(a.number, out);
+    let mut held = [0u8; 65536];
+    let mut list = [0u16; 258];
+    match read_and_mend(bytes, &mut held, &mut list) {
+        Ok(read) => {
+            let n = (read.shape.k + read.shape.r) * read.shape.l;
+            let m = read.lost;
+            write_text(read.shape, &list[..m], &held[..n], out)
+        }
+        Err(no) => write_refusal(u32::from(no), out),
     }
-    let n = (a.shape.k + a.shape.r) * a.shape.l;
-    let m = a.lost;
-    write_text(a.shape, &list[..m], &held[..n], out)
 }

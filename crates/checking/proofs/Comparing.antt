@@ -1,17 +1,21 @@
 -- Two lists compared: what a loop has left to compare is the two lists from place q on. Two lists of one length agree and are equal, or
 -- their first difference is within them.
-use Prim.Native.Nat.{ℕ, zero, suc, ◌+◌, ◌<◌, ◌≤◌}
+use Prim.Native.Nat.{ℕ, zero, suc, ◌+◌, ◌<◌, ◌≤◌, min}
 use mathlib.Core.Path.{◌≡◌, refl, sym, ap, ◌∙◌}
-use mathlib.Core.Bool.{Bool, true, false, cond, true≢false, ◌&&◌, and_assoc, and-true}
+use mathlib.Core.Bool.{Bool, true, false, cond, not, true≢false, ◌&&◌, and_assoc, and-true}
 use mathlib.Core.List.{List, [], ◌∷◌}
 use mathlib.Core.Logic.{◌⊎◌, inl, inr}
 use native.Mathlib.Nat.{suc_inj, suc-ne-zero, le_of_suc-le-suc, not-suc-le-zero}
-use native.Mathlib.Numerals.{add-one}
 use native.Mathlib.Omega.{arith}
 use lib.Bits.{bit_or, bit_xor, xor_self}
-use lib.Dec.{eqb}
-use lib.ListN.{length, get_or, drop}
-use borrow.Author.Tests.{eqb-true, eqb-false, eq-eqb, ne_eqb}
+use lib.Dec.{eqb, ltb}
+use lib.ListN.{length, get_or}
+use Rattle.std.specs.List.{fold, zip, position, prefix_len}
+use Rattle.std.specs.Option.{unwrap_or}
+use Rattle.std.proofs.Common.{Some, None}
+use Rattle.std.proofs.lemmas.List.Sums.{prefix_len-le-length}
+use Rattle.std.proofs.lemmas.Slice.Zip.{length-zip}
+use borrow.Author.Tests.{eqb-true, eqb-false, eq-eqb, ne_eqb, ltb-false}
 use Rattle.field.specs.Field.{◌⊕◌}
 use Rattle.field.proofs.Powers.{sum_zero}
 use Rattle.field.proofs.Cases.{below_or_from, and_left, and_right}
@@ -33,99 +37,39 @@ xor_eqb x y = by (eqb x y) refl
 
 -- ---- whether they agree
 
-agree-drop : (xs ys : List ℕ) (q : ℕ) → q < length xs → q < length ys
-    → agree (drop q xs) (drop q ys) ≡ eqb (get_or xs q 0) (get_or ys q 0) && agree (drop (suc q) xs) (drop (suc q) ys)
+-- the bits in which they differ, gathered over all places, are none exactly where they agree
+pub fold_agree : (xs ys : List ℕ) (z : ℕ) → eqb (fold (λ z p. bit_or z (bit_xor p.0 p.1)) z (zip xs ys)) 0 ≡ eqb z 0 && agree xs ys
 unfolding agree
-agree-drop [] ys q hx hy = absurd (not-suc-le-zero hx)
-agree-drop (x ∷ xs) [] q hx hy = absurd (not-suc-le-zero hy)
-agree-drop (x ∷ xs) (y ∷ ys) zero hx hy = refl
-agree-drop (x ∷ xs) (y ∷ ys) (suc q) hx hy = agree-drop xs ys q (le_of_suc-le-suc hx) (le_of_suc-le-suc hy)
-
-agree-nil : (l : List ℕ) → agree l [] ≡ true
-unfolding agree
-agree-nil [] = refl
-agree-nil (x ∷ l) = refl
-
-agree_end : (xs ys : List ℕ) (q : ℕ) → (length xs ≤ q) ⊎ (length ys ≤ q) → agree (drop q xs) (drop q ys) ≡ true
-unfolding agree
-agree_end [] ys zero h = refl
-agree_end [] ys (suc q) h = refl
-agree_end (x ∷ xs) [] zero h = refl
-agree_end (x ∷ xs) [] (suc q) h = agree-nil (drop q xs)
-agree_end (x ∷ xs) (y ∷ ys) zero (inl h) = absurd (not-suc-le-zero h)
-agree_end (x ∷ xs) (y ∷ ys) zero (inr h) = absurd (not-suc-le-zero h)
-agree_end (x ∷ xs) (y ∷ ys) (suc q) (inl h) = agree_end xs ys q (inl (le_of_suc-le-suc h))
-agree_end (x ∷ xs) (y ∷ ys) (suc q) (inr h) = agree_end xs ys q (inr (le_of_suc-le-suc h))
-
--- z is 0 so far exactly where all before q agrees
-pub same_turn : (xs ys : List ℕ) (z q : ℕ) → q < length xs → q < length ys
-    → eqb z 0 && agree (drop q xs) (drop q ys) ≡ agree xs ys
-    → eqb (bit_or z (bit_xor (get_or xs q 0) (get_or ys q 0))) 0 && agree (drop (q + 1) xs) (drop (q + 1) ys) ≡ agree xs ys
-same_turn xs ys z q hx hy e =
-    let x = get_or xs q 0 in
-    let y = get_or ys q 0 in
-    ap (λ (n : ℕ). eqb (bit_or z (bit_xor x y)) 0 && agree (drop n xs) (drop n ys)) (add-one q)
-    ∙ ap (λ (b : Bool). b && agree (drop (suc q) xs) (drop (suc q) ys)) (or_eqb z (bit_xor x y) ∙ ap (λ (b : Bool). eqb z 0 && b) (xor_eqb x y))
-    ∙ and_assoc (eqb z 0) (eqb x y) (agree (drop (suc q) xs) (drop (suc q) ys))
-    ∙ ap (λ (b : Bool). eqb z 0 && b) (sym (agree-drop xs ys q hx hy)) ∙ e
-
-pub same_done : (xs ys : List ℕ) (z q n : ℕ) → n ≤ q → (length xs ≤ n) ⊎ (length ys ≤ n)
-    → eqb z 0 && agree (drop q xs) (drop q ys) ≡ agree xs ys → eqb z 0 ≡ agree xs ys
-same_done xs ys z q n h s e =
-    sym (and-true (eqb z 0)) ∙ ap (λ (b : Bool). eqb z 0 && b) (sym (agree_end xs ys q (ends h s))) ∙ e
-  where
-    ends : n ≤ q → (length xs ≤ n) ⊎ (length ys ≤ n) → (length xs ≤ q) ⊎ (length ys ≤ q)
-    ends h (inl l) = inl (omega arith)
-    ends h (inr l) = inr (omega arith)
+fold_agree [] ys z = sym (and-true (eqb z 0))
+fold_agree (x ∷ xs) [] z = sym (and-true (eqb z 0))
+fold_agree (x ∷ xs) (y ∷ ys) z =
+    fold_agree xs ys (bit_or z (bit_xor x y))
+    ∙ ap (λ (b : Bool). b && agree xs ys) (or_eqb z (bit_xor x y) ∙ ap (λ (b : Bool). eqb z 0 && b) (xor_eqb x y))
+    ∙ and_assoc (eqb z 0) (eqb x y) (agree xs ys)
 
 -- ---- the first difference
 
-first_drop : (xs ys : List ℕ) (q : ℕ) → q < length xs → q < length ys
-    → first_difference (drop q xs) (drop q ys) ≡ cond (eqb (get_or xs q 0) (get_or ys q 0)) (suc (first_difference (drop (suc q) xs) (drop (suc q) ys))) 0
+-- the places before the first that differs, or to the end of the shorter
+first_prefix : (xs ys : List ℕ) → prefix_len (λ p. not (not (eqb p.0 p.1))) (zip xs ys) ≡ first_difference xs ys
 unfolding first_difference
-first_drop [] ys q hx hy = absurd (not-suc-le-zero hx)
-first_drop (x ∷ xs) [] q hx hy = absurd (not-suc-le-zero hy)
-first_drop (x ∷ xs) (y ∷ ys) zero hx hy = refl
-first_drop (x ∷ xs) (y ∷ ys) (suc q) hx hy = first_drop xs ys q (le_of_suc-le-suc hx) (le_of_suc-le-suc hy)
+first_prefix [] ys = refl
+first_prefix (x ∷ xs) [] = refl
+first_prefix (x ∷ xs) (y ∷ ys) = ap (λ (n : ℕ). cond (not (not (eqb x y))) (1 + n) 0) (first_prefix xs ys) ∙ step (eqb x y) (first_difference xs ys)
+  where
+    step : (b : Bool) (f : ℕ) → cond (not (not b)) (1 + f) 0 ≡ cond b (suc f) 0
+    step true f = omega arith
+    step false f = refl
 
-first_nil : (l : List ℕ) → first_difference l [] ≡ 0
-unfolding first_difference
-first_nil [] = refl
-first_nil (x ∷ l) = refl
-
-first_end : (xs ys : List ℕ) (q : ℕ) → (length xs ≤ q) ⊎ (length ys ≤ q) → first_difference (drop q xs) (drop q ys) ≡ 0
-unfolding first_difference
-first_end [] ys zero h = refl
-first_end [] ys (suc q) h = refl
-first_end (x ∷ xs) [] zero h = refl
-first_end (x ∷ xs) [] (suc q) h = first_nil (drop q xs)
-first_end (x ∷ xs) (y ∷ ys) zero (inl h) = absurd (not-suc-le-zero h)
-first_end (x ∷ xs) (y ∷ ys) zero (inr h) = absurd (not-suc-le-zero h)
-first_end (x ∷ xs) (y ∷ ys) (suc q) (inl h) = first_end xs ys q (inl (le_of_suc-le-suc h))
-first_end (x ∷ xs) (y ∷ ys) (suc q) (inr h) = first_end xs ys q (inr (le_of_suc-le-suc h))
-
-pub first_turn : (xs ys : List ℕ) (q : ℕ) → q < length xs → q < length ys → get_or xs q 0 ≡ get_or ys q 0
-    → q + first_difference (drop q xs) (drop q ys) ≡ first_difference xs ys
-    → q + 1 + first_difference (drop (q + 1) xs) (drop (q + 1) ys) ≡ first_difference xs ys
-first_turn xs ys q hx hy same e =
-    let f = first_difference (drop (suc q) xs) (drop (suc q) ys) in
-    let here : first_difference (drop q xs) (drop q ys) ≡ suc f = first_drop xs ys q hx hy
-    ∙ ap (λ (b : Bool). cond b (suc f) 0) (eq-eqb (get_or xs q 0) (get_or ys q 0) same) in
-    let moved : first_difference (drop (q + 1) xs) (drop (q + 1) ys) ≡ f = ap (λ (n : ℕ). first_difference (drop n xs) (drop n ys)) (add-one q) in
-    omega (arith, here, moved, e)
-
-pub first_found : (xs ys : List ℕ) (q : ℕ) → q < length xs → q < length ys → (get_or xs q 0 ≡ get_or ys q 0 → ⊥)
-    → q + first_difference (drop q xs) (drop q ys) ≡ first_difference xs ys → q ≡ first_difference xs ys
-first_found xs ys q hx hy differ e =
-    let f = first_difference (drop (suc q) xs) (drop (suc q) ys) in
-    let here : first_difference (drop q xs) (drop q ys) ≡ 0 = first_drop xs ys q hx hy
-    ∙ ap (λ (b : Bool). cond b (suc f) 0) (ne_eqb (get_or xs q 0) (get_or ys q 0) differ) in
-    omega (arith, here, e)
-
-pub first_done : (xs ys : List ℕ) (q n : ℕ) → n ≤ q → (length xs ≤ n) ⊎ (length ys ≤ n)
-    → q + first_difference (drop q xs) (drop q ys) ≡ first_difference xs ys → q ≡ first_difference xs ys
-first_done xs ys q n h (inl l) e = omega (arith, first_end xs ys q (inl (omega arith)))
-first_done xs ys q n h (inr l) e = omega (arith, first_end xs ys q (inr (omega arith)))
+pub first_position : (xs ys : List ℕ) → unwrap_or (position (λ p. not (eqb p.0 p.1)) (zip xs ys)) (min (length xs) (length ys)) ≡ first_difference xs ys
+first_position xs ys =
+    found _ (length (zip xs ys)) _ (prefix_len-le-length (λ p. not (not (eqb p.0 p.1))) (zip xs ys)) (length-zip xs ys) ∙ first_prefix xs ys
+  where
+    found : (n m k : ℕ) → n ≤ m → m ≡ k → unwrap_or (cond (ltb n m) (Some n) None) k ≡ n
+    found n m k h e = go (ltb n m) refl
+      where
+        go : (b : Bool) → ltb n m ≡ b → unwrap_or (cond b (Some n) None) k ≡ n
+        go true l = refl
+        go false l = omega (arith, ltb-false n m l)
 
 -- ---- two lists that agree, or do not
 

@@ -14,9 +14,8 @@ use Rattle.stripe.specs.Stripe.{parity, Codeword}
 use Rattle.stripe.specs.Column.{lent_refusal}
 use Rattle.stripe.proofs.Places.{parity_at, place_split, place_column_lt, place_byte_lt}
 use Rattle.stripe.proofs.Lent.{Lent, lent}
-use Rattle.checking.specs.declared.Wrong.{Wrong}
 use Rattle.checking.specs.Compare.{agree, first_difference}
-use Rattle.checking.specs.Check.{number_of, values_of, first_wrong, FirstDisagreement}
+use Rattle.checking.specs.Check.{Wrong, number_of, values_of, first_wrong, FirstDisagreement}
 use Rattle.checking.proofs.Comparing.{first_within, first_differs, first_before}
 use Rattle.checking.proofs.Where.{wrong_refused, wrong_nowhere, wrong_at, nowhere_codeword, codeword_nowhere}
 

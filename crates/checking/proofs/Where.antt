@@ -1,5 +1,5 @@
 -- Where a stripe is wrong: its parity agrees with that of its data, or first differs within; nowhere is said exactly of a codeword.
-use Prim.Native.Nat.{ℕ, ◌-◌, ◌/◌, ◌%◌, ◌<◌, ◌≤◌}
+use Prim.Native.Nat.{ℕ, ◌/◌, ◌%◌, ◌<◌, ◌≤◌}
 use mathlib.Core.Path.{◌≡◌, refl, sym, ap, ◌∙◌}
 use mathlib.Core.Bool.{Bool, true, false, cond}
 use mathlib.Core.List.{List, ◌++◌}
@@ -7,24 +7,56 @@ use native.Mathlib.Nat.{suc-ne-zero, mul-le-mul}
 use native.Mathlib.Omega.{arith}
 use borrow.Author.Tests.{eq-eqb, ne_eqb, eqb-true, eqb-false, lt-ltb, le-ltb}
 use lib.Dec.{eqb}
-use lib.ListN.{length, take, drop, length-take, length-drop}
+use lib.ListN.{length}
 use Rattle.field.specs.Bytes.{Bytes}
 use Rattle.stripe.specs.declared.Shape.{Shape}
-use Rattle.checking.specs.declared.Wrong.TheVariants.{Nowhere, At, Refused}
 use Rattle.stripe.specs.Shape.{shape_refusal, data_length, parity_length, most_rows, most_rows_length}
 use Rattle.stripe.specs.Stripe.{parity, Codeword}
 use Rattle.stripe.specs.Column.{lent_refusal}
 use Rattle.checking.specs.Compare.{agree, first_difference}
-use Rattle.checking.specs.Check.{number_of, where_is, first_wrong}
+use Rattle.std.specs.Prelude.{IsErrAnd}
+use Rattle.std.specs.declared.option.Option.{Option}
+use Rattle.std.specs.declared.option.Option.TheVariants.{None, Some}
+use Rattle.std.specs.declared.result.Result.{Result}
+use Rattle.std.specs.declared.result.Result.TheVariants.{Ok, Err}
+use Rattle.stripe.specs.declared.refusal.Refusal.{Refusal}
+use Rattle.stripe.specs.Refusal.{refusal_number}
+use Rattle.stripe.proofs.Refused.{same_refusal}
+use Rattle.checking.specs.declared.Place.{Place}
+use Rattle.checking.specs.Check.{Nowhere, At, Refused, found, reported, number_of, where_is, first_wrong}
 use Rattle.stripe.proofs.Allowed.{allowed}
 use Rattle.stripe.proofs.Places.{parity-length}
 use Rattle.stripe.proofs.Codewords.{joined_codeword, codeword_joined}
 use Rattle.stripe.proofs.Lent.{Lent, lent, lent_both}
 use Rattle.checking.proofs.Comparing.{agree_equal, first_self, first_within}
 
--- the first n bytes of a buffer
-pub front_length : (xs : List ℕ) (n : ℕ) → n ≤ length xs → length (take (n - 0) (drop 0 xs)) ≡ n
-front_length xs n h = simp (length-take, length-drop) (omega arith)
+-- ---- what an answer reports
+
+-- an error handed on by `?` reports the same refusal
+pub reported_refused : (r : Result (Option Place) Refusal) (e : Refusal) → IsErrAnd r (λ w. w ≡ e) → reported r ≡ Refused (refusal_number e)
+reported_refused (Ok x) e h = absurd h
+reported_refused (Err w) e h = ap (λ (x : Refusal). Refused (refusal_number x)) h
+
+-- two answers that report the same are the same
+same_place : (v w : Place) → v.column ≡ w.column → v.place ≡ w.place → v ≡ w
+same_place v w e f i = record { column = e i; place = f i }
+
+found_same : (v w : Option Place) → found v ≡ found w → v ≡ w
+found_same None None h = refl
+found_same None (Some w) h = cc
+found_same (Some v) None h = cc
+found_same (Some v) (Some w) h =
+    let e : v.column ≡ w.column = cc in
+    let f : v.place ≡ w.place = cc in
+    ap Some (same_place v w e f)
+
+pub reported_same : (v w : Result (Option Place) Refusal) → reported v ≡ reported w → v ≡ w
+reported_same (Ok v) (Ok w) h = ap Ok (found_same v w h)
+reported_same (Ok None) (Err w) h = cc
+reported_same (Ok (Some v)) (Err w) h = cc
+reported_same (Err v) (Ok None) h = cc
+reported_same (Err v) (Ok (Some w)) h = cc
+reported_same (Err v) (Err w) h = let k : refusal_number v ≡ refusal_number w = cc in ap Err (same_refusal v w k)
 
 -- ---- the answer
 

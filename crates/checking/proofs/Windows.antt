@@ -3,12 +3,13 @@ use mathlib.Core.Path.{◌≡◌, sym, ap, ap₂, ◌∙◌, subst}
 use mathlib.Core.Bool.{true}
 use mathlib.Core.List.{List}
 use mathlib.Core.Logic.{◌⊎◌, inl, inr, ⊎_elim}
-use Prim.Native.Nat.{ℕ, ◌+◌, ◌-◌, ◌*◌, ◌/◌, ◌%◌, ◌<◌, ◌≤◌}
-use native.Mathlib.Nat.{mul-le-mul_left, mul-le-mul_right, le-div_iff_mul-le, div-add-mod, div-le_self}
+use Prim.Native.Nat.{ℕ, ◌+◌, ◌-◌, ◌*◌, ◌/◌, ◌%◌, ◌<◌, ◌≤◌, min}
+use native.Mathlib.Nat.{mul-le-mul_left, mul-le-mul_right, le-div_iff_mul-le, div-add-mod}
 use native.Mathlib.Omega.{arith}
 use lib.ListN.{length, get_or, take, drop}
 use lib.Seq.{get_or-take, get_or-drop}
 use borrow.Rule.Slice.PartMut.{mid_len}
+use Rattle.std.proofs.lemmas.Grind.{div_ceil_times}
 use Rattle.field.specs.Bytes.{tabulate}
 use Rattle.field.proofs.Bytes.{tabulate-length, tabulate_at}
 use Rattle.field.proofs.Cases.{below_or_from}
@@ -34,27 +35,30 @@ use Rattle.checking.proofs.Comparing.{first_before, differs_within, first_unique
 pub step_some : (r : ℕ) → 1 ≤ r → r ≤ 16 → 1 ≤ 2048 / r / 64 * 64
 step_some r h few = let most : 128 * r ≤ 2048 = omega arith in omega (arith, (le-div_iff_mul-le {k = r} {x = 128} {y = 2048} h).1 most)
 
-pub step_small : (r : ℕ) → 2048 / r / 64 * 64 ≤ 2048
-step_small r = omega (arith, div-le_self 2048 r)
-
 pub step_most : (r : ℕ) → r * (2048 / r / 64 * 64) ≤ 2048
 step_most r =
     let less : 2048 / r / 64 * 64 ≤ 2048 / r = omega arith in omega (arith, mul-le-mul_left r less, div-add-mod 2048 r)
 
-pub window_most : (r n most : ℕ) → n ≤ most → r * most ≤ 2048 → r * n ≤ 2048
-window_most r n most h fits = omega (arith, mul-le-mul_left r h)
+-- the window i starts within the columns, and the last one ends them
+pub window_starts : (l most i : ℕ) → 1 ≤ most → i < l / most + min 1 (l % most) → i * most < l
+window_starts l most i some h = ⊎_elim below last (below_or_from i (l / most))
+  where
+    below : i < l / most → i * most < l
+    below g = omega (arith, mul-le-mul_right most g, div-add-mod l most)
+
+    last : l / most ≤ i → i * most < l
+    last g = let same : i ≡ l / most = omega arith in omega (arith, ap (λ (x : ℕ). x * most) same, div-add-mod l most)
+
+pub windows_end : (l most i : ℕ) → 1 ≤ most → l / most + min 1 (l % most) ≤ i → l ≤ min (i * most) l
+windows_end l most i some h = omega (arith, mul-le-mul_right most h, (div_ceil_times l most some).0)
 
 -- ---- a row
 
 part_at : (xs : List ℕ) (a e t : ℕ) → t < e - a → get_or (take (e - a) (drop a xs)) t 0 ≡ get_or xs (a + t) 0
 part_at xs a e t h = get_or-take (e - a) (drop a xs) t 0 h ∙ get_or-drop a xs t 0
 
-pub row_ends : (r l p n i : ℕ) → i < r → p + n ≤ l → i * l + p + n ≤ r * l
+row_ends : (r l p n i : ℕ) → i < r → p + n ≤ l → i * l + p + n ≤ r * l
 row_ends r l p n i hi fits = omega (arith, column_inside i r l hi)
-
-pub made_ends : (r l p n i : ℕ) → i < r → p + n ≤ l → i * n + n ≤ r * l
-made_ends r l p n i hi fits =
-    let less : n ≤ l = omega arith in omega (arith, column_inside i r l hi, mul-le-mul_left i less)
 
 module _ (xs zs : List ℕ) (r l p n i : ℕ) (hi : i < r) (fits : p + n ≤ l) (lx : length xs ≡ r * l) (lz : length zs ≡ r * n) where
   abbrev here : List ℕ
@@ -63,10 +67,10 @@ module _ (xs zs : List ℕ) (r l p n i : ℕ) (hi : i < r) (fits : p + n ≤ l) 
   abbrev there : List ℕ
   there = take (i * n + n - i * n) (drop (i * n) zs)
 
-  pub row_inside : i * l + p + n ≤ length xs
+  row_inside : i * l + p + n ≤ length xs
   row_inside = omega (arith, lx, row_ends r l p n i hi fits)
 
-  pub made_inside : i * n + n ≤ length zs
+  made_inside : i * n + n ≤ length zs
   made_inside = omega (arith, lz, column_inside i r n hi)
 
   here_length : length here ≡ n
@@ -75,7 +79,7 @@ module _ (xs zs : List ℕ) (r l p n i : ℕ) (hi : i < r) (fits : p + n ≤ l) 
   there_length : length there ≡ n
   there_length = omega (arith, mid_len (i * n) (i * n + n) zs made_inside)
 
-  pub row-length : length here ≡ length there
+  row-length : length here ≡ length there
   row-length = here_length ∙ sym there_length
 
   module _ (ys : List ℕ) (w : Window r l p n zs ys) where

@@ -1,12 +1,32 @@
 -- The check (document 01, 'Stripes', 'Mending'): where the parity of a stripe first disagrees with the parity by definition.
 use Rattle.std.specs.Prelude.{ℕ, ◌+◌, ◌*◌, ◌/◌, ◌%◌, ◌<◌, ◌≡◌, cond, List, [], ◌∷◌, ltb, eqb, length, get_or}
 use Rattle.stripe.specs.declared.Shape.{Shape}
-use Rattle.checking.specs.declared.Wrong.{Wrong}
-use Rattle.checking.specs.declared.Wrong.TheVariants.{Nowhere, At, Refused}
+use Rattle.std.specs.declared.option.Option.{Option}
+use Rattle.std.specs.declared.option.Option.TheVariants.{None, Some}
+use Rattle.std.specs.declared.result.Result.{Result}
+use Rattle.std.specs.declared.result.Result.TheVariants.{Ok, Err}
+use Rattle.stripe.specs.declared.refusal.Refusal.{Refusal}
+use Rattle.stripe.specs.Refusal.{refusal_number}
+use Rattle.checking.specs.declared.Place.{Place}
 use Rattle.stripe.specs.Shape.{parity_length}
 use Rattle.stripe.specs.Stripe.{parity_byte, parity}
 use Rattle.stripe.specs.Column.{lent_refusal}
 use Rattle.checking.specs.Compare.{first_difference}
+
+-- nowhere, or at a parity column and a place in it, or a refusal
+pub data Wrong : Type 0 where
+  Nowhere : Wrong
+  At : ℕ → ℕ → Wrong
+  Refused : ℕ → Wrong
+
+-- what an answer of the check reports
+abbrev pub found : Option Place → Wrong
+found None = Nowhere
+found (Some w) = At w.column w.place
+
+abbrev pub reported : Result (Option Place) Refusal → Wrong
+reported (Ok w) = found w
+reported (Err e) = Refused (refusal_number e)
 
 -- the number of an answer: 0 for a codeword, 8 for a stripe that is none, else the refusal
 abbrev pub number_of : Wrong → ℕ

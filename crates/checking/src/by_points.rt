@@ -3,42 +3,39 @@
 ghost use Rattle.std.specs.Prelude.{◌≡◌, true, List, ◌⊎◌, ℕ, ◌+◌, ◌*◌, ◌<◌, ◌≤◌, length};
 ghost use Rattle.field.specs.Bytes.{tabulate};
 ghost use Rattle.stripe.specs.Stripe.{by_points, parity};
-ghost use Rattle.stripe.specs.Column.{lent_refusal};
 ghost use Rattle.constants.specs.Constants.{encoding_of};
 ghost use Rattle.checking.specs.Compare.{first_difference};
 ghost use Rattle.checking.specs.Windows.{Below, Window};
 
 use crate::compare::difference;
+use crate::lent::Lent;
 use constants::{MOST_CONSTANTS, encoding, in_order};
-use lanes::shorter;
 use matrix::apply;
-use stripe::Shape;
 
 // The bytes of a window, of all rows together.
 const WINDOW: usize = 2048;
 
 // The first index at which the parity lent differs from the parity of the data, or its length.
 #[inline(never)]
-pub(crate) fn first_by_points(s: Shape, data: &[u8], lent: &[u8]) -> usize
-    requires { (lent_refusal s (length «data».now) (length lent.now) ≡ 0) × (by_points s ≡ true) }
-    ensures { result ≡ first_difference lent.now (parity s «data».now) }
+pub(crate) fn first_by_points(lent: &Lent) -> usize
+    requires { by_points lent.now.shape ≡ true }
+    ensures { result ≡ first_difference lent.now.parity.now (parity lent.now.shape lent.now.«data».now) }
 {
-    let n = s.r * s.k;
+    let n = lent.shape.r * lent.shape.k;
     let mut w = [0u8; MOST_CONSTANTS];
-    first_by(s, data, lent, &mut w[0..n])
+    first_by(lent, &mut w[0..n])
 }
 
 // The same, with room for the constants.
-fn first_by(s: Shape, data: &[u8], lent: &[u8], w: &mut [u8]) -> usize
-    requires { (lent_refusal s (length «data».now) (length lent.now) ≡ 0) × ((by_points s ≡ true) × (length w.old ≡ s.r * s.k)) }
-    ensures { result ≡ first_difference lent.now (parity s «data».now) }
+fn first_by(lent: &Lent, w: &mut [u8]) -> usize
+    requires { (by_points lent.now.shape ≡ true) × (length w.old ≡ lent.now.shape.r * lent.now.shape.k) }
+    ensures { result ≡ first_difference lent.now.parity.now (parity lent.now.shape lent.now.«data».now) }
 {
-    let k = s.k;
-    let r = s.r;
-    encoding(k, r, w);
+    let k = lent.shape.k;
+    encoding(k, lent.shape.r, w);
     let mut at = [0u8; 255];
     in_order(&mut at[0..k]);
-    all_windows(s, data, lent, &at[0..k], w)
+    all_windows(lent, &at[0..k], w)
 }
 
 // As many places as a window holds of r rows, in multiples of 64.
@@ -50,48 +47,39 @@ fn step(r: usize) -> usize
 }
 
 // The same with the constants, window by window.
-fn all_windows(s: Shape, data: &[u8], lent: &[u8], at: &[u8], w: &[u8]) -> usize
-    requires { (lent_refusal s (length «data».now) (length lent.now) ≡ 0) × ((by_points s ≡ true)
-        × ((at.now ≡ tabulate s.k (λ i. i)) × (w.now ≡ encoding_of s.k s.r))) }
-    ensures { result ≡ first_difference lent.now (parity s «data».now) }
+fn all_windows(lent: &Lent, at: &[u8], w: &[u8]) -> usize
+    requires { (by_points lent.now.shape ≡ true)
+        × ((at.now ≡ tabulate lent.now.shape.k (λ i. i)) × (w.now ≡ encoding_of lent.now.shape.k lent.now.shape.r)) }
+    ensures { result ≡ first_difference lent.now.parity.now (parity lent.now.shape lent.now.«data».now) }
 {
-    let r = s.r;
-    let l = s.l;
+    let r = lent.shape.r;
+    let l = lent.shape.l;
     let most = step(r);
     let mut made = [0u8; WINDOW];
     let mut b = r * l;
-    let mut p = 0;
-    while p < l {
-        let n = shorter(most, l - p);
+    for i in 0..l.div_ceil(most) {
+        let p = i * most;
+        let n = most.min(l - p);
         let m = r * n;
-        b = window(s, data, lent, at, w, p, n, b, &mut made[0..m]);
-        p += n;
+        b = window(lent, at, w, p, n, b, &mut made[0..m]);
     }
     b
 }
 
 // Of the index kept and the first difference in the n places from p on, the lesser.
-fn window(
-    s: Shape,
-    data: &[u8],
-    lent: &[u8],
-    at: &[u8],
-    w: &[u8],
-    p: usize,
-    n: usize,
-    b: usize,
-    made: &mut [u8],
-) -> usize
-    requires { (lent_refusal s (length «data».now) (length lent.now) ≡ 0) × ((by_points s ≡ true)
-        × ((at.now ≡ tabulate s.k (λ i. i)) × ((w.now ≡ encoding_of s.k s.r)
-        × ((1 ≤ n) × ((p + n ≤ s.l) × (length made.old ≡ s.r * n)))))) }
-    ensures { Below s.l (s.r * s.l) p lent.now (parity s «data».now) b
-        → Below s.l (s.r * s.l) (p + n) lent.now (parity s «data».now) result }
+fn window(lent: &Lent, at: &[u8], w: &[u8], p: usize, n: usize, b: usize, made: &mut [u8]) -> usize
+    requires { (by_points lent.now.shape ≡ true) × ((at.now ≡ tabulate lent.now.shape.k (λ i. i))
+        × ((w.now ≡ encoding_of lent.now.shape.k lent.now.shape.r)
+        × ((1 ≤ n) × ((p + n ≤ lent.now.shape.l) × (length made.old ≡ lent.now.shape.r * n))))) }
+    ensures { let s = lent.now.shape in
+        let ps = lent.now.parity.now in
+        let made = parity s lent.now.«data».now in
+        Below s.l (s.r * s.l) p ps made b → Below s.l (s.r * s.l) (p + n) ps made result }
 {
-    let r = s.r;
-    let l = s.l;
-    apply(r, at, w, data, p, l, n, made);
-    all_rows(lent, made, r, l, p, n, b)
+    let r = lent.shape.r;
+    let l = lent.shape.l;
+    apply(r, at, w, lent.data, p, l, n, made);
+    all_rows(lent.parity, made, r, l, p, n, b)
 }
 
 // The same of parity that was made, row by row.
@@ -101,15 +89,13 @@ fn all_rows(lent: &[u8], made: &[u8], r: usize, l: usize, p: usize, n: usize, b:
         → Below l (r * l) (p + n) lent.now ys result }
 {
     let mut c = b;
-    let mut i = 0;
-    while i < r {
+    for i in 0..r {
         let a = i * l + p;
         let e = a + n;
         let f = i * n;
         let g = f + n;
         let d = difference(&lent[a..e], &made[f..g]);
         c = earlier(c, a, d, n);
-        i += 1;
     }
     c
 }
@@ -119,11 +105,5 @@ fn earlier(b: usize, a: usize, d: usize, n: usize) -> usize
     requires { a + n ≤ 65536 }
     ensures { ((result ≡ b) × ((n ≤ d) ⊎ (b ≤ a + d))) ⊎ ((result ≡ a + d) × ((d < n) × (a + d < b))) }
 {
-    if n <= d {
-        return b;
-    }
-    if b <= a + d {
-        return b;
-    }
-    a + d
+    if d < n { b.min(a + d) } else { b }
 }

@@ -3,35 +3,22 @@
 ghost use Rattle.std.specs.Prelude.{◌≡◌, length};
 ghost use Rattle.checking.specs.Compare.{agree, first_difference};
 
-use lanes::shorter;
-
 // Whether the two agree at each place.
 fn same(a: &[u8], d: &[u8]) -> bool
     ensures { result ≡ agree a.now d.now }
 {
-    let n = shorter(a.len(), d.len());
-    let mut z = 0u8;
-    let mut q = 0;
-    while q < n {
-        z = z | (a[q] ^ d[q]);
-        q += 1;
-    }
-    z == 0
+    a.iter().zip(d).fold(0, |z, (x, y)| z | (x ^ y)) == 0
 }
 
-// The first place at which the two differ, or the length of the shorter.
+// The first place at which the two differ, or the length of the shorter: no Option, since the definition is one number, which `where_is`
+// and the least of several windows take as it is.
 fn first_difference(a: &[u8], d: &[u8]) -> usize
     ensures { result ≡ first_difference a.now d.now }
 {
-    let n = shorter(a.len(), d.len());
-    let mut q = 0;
-    while q < n {
-        if a[q] != d[q] {
-            return q;
-        }
-        q += 1;
-    }
-    q
+    a.iter()
+        .zip(d)
+        .position(|(x, y)| x != y)
+        .unwrap_or(a.len().min(d.len()))
 }
 
 // The first place at which two slices of one length differ, or their length: looked for only where they do not agree.

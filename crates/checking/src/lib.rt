@@ -6,77 +6,78 @@
 mod by_points;
 mod by_rows;
 mod compare;
+mod lent;
 
 ghost use Rattle.std.specs.Prelude.{◌≡◌, length};
 ghost use Rattle.stripe.specs.Shape.{shape_refusal};
 ghost use Rattle.stripe.specs.Stripe.{parity};
-ghost use Rattle.stripe.specs.Column.{lent_refusal};
 ghost use Rattle.checking.specs.Compare.{agree, first_difference};
-ghost use Rattle.checking.specs.Check.{where_is, first_wrong};
+ghost use Rattle.checking.specs.Check.{found, reported, where_is, first_wrong};
 
 use crate::by_points::first_by_points;
-use crate::by_rows::{SMALL, first_by_rows, in_small};
+use crate::by_rows::{SMALL, first_by_rows, in_room};
+use crate::lent::Lent;
 use stripe::column::lent_refusal;
+use stripe::refusal::Refusal;
 use stripe::{MOST_ROWS, Shape};
 
-// Nowhere, or at a parity column and a place in it, or a refusal.
+// A parity column and a place in it.
 #[derive(Clone, Copy)]
-pub enum Wrong {
-    Nowhere,
-    At(usize, usize),
-    Refused(u32),
+pub struct Place {
+    pub column: usize,
+    pub place: usize,
 }
 
-// The first disagreement, by parity column and then by place; 1, 2 or 5 where the numbers or the lengths are refused.
-pub fn first_wrong(s: Shape, data: &[u8], parity: &[u8]) -> Wrong
-    ensures { result ≡ first_wrong s «data».now parity.now }
+// The first disagreement, by parity column and then by place, if there is one; or what is lent is refused.
+pub fn first_wrong(s: Shape, data: &[u8], parity: &[u8]) -> Result<Option<Place>, Refusal>
+    ensures { reported result ≡ first_wrong s «data».now parity.now }
 {
-    let no = lent_refusal(s, data.len(), parity.len());
-    if no != 0 {
-        return Wrong::Refused(no);
+    lent_refusal(s, data.len(), parity.len())?;
+    let lent = Lent {
+        shape: s,
+        data,
+        parity,
+    };
+    if agrees(&lent) {
+        return Ok(None);
     }
-    if agrees(s, data, parity) {
-        return Wrong::Nowhere;
-    }
-    where_is(s, first(s, data, parity))
+    Ok(where_is(s, first(&lent)))
 }
 
 // Index n of the parity bytes as parity column and place, or nowhere if it is past the last.
-fn where_is(s: Shape, n: usize) -> Wrong
+fn where_is(s: Shape, n: usize) -> Option<Place>
     requires { shape_refusal s ≡ 0 }
-    ensures { result ≡ where_is s n }
+    ensures { found result ≡ where_is s n }
 {
-    let l = s.l;
-    if s.r * l <= n {
-        return Wrong::Nowhere;
+    if s.r * s.l <= n {
+        return None;
     }
-    let i = n / l;
-    let p = n % l;
-    Wrong::At(i, p)
+    Some(Place {
+        column: n / s.l,
+        place: n % s.l,
+    })
 }
 
 // Whether the parity lent agrees with the parity of the data. A small stripe is compared in the frame of the call.
-fn agrees(s: Shape, data: &[u8], lent: &[u8]) -> bool
-    requires { lent_refusal s (length «data».now) (length lent.now) ≡ 0 }
-    ensures { result ≡ agree lent.now (parity s «data».now) }
+fn agrees(lent: &Lent) -> bool
+    ensures { result ≡ agree lent.now.parity.now (parity lent.now.shape lent.now.«data».now) }
 {
-    let n = lent.len();
-    if MOST_ROWS < s.r {
-        return first_by_points(s, data, lent) == n;
+    let n = lent.parity.len();
+    if MOST_ROWS < lent.shape.r {
+        return first_by_points(lent) == n;
     }
     if n <= SMALL {
-        return in_small(s, data, lent) == n;
+        return in_room::<SMALL>(lent) == n;
     }
-    first_by_rows(s, data, lent) == n
+    first_by_rows(lent) == n
 }
 
 // The first index at which the parity lent differs from the parity of the data, or its length.
-fn first(s: Shape, data: &[u8], lent: &[u8]) -> usize
-    requires { lent_refusal s (length «data».now) (length lent.now) ≡ 0 }
-    ensures { result ≡ first_difference lent.now (parity s «data».now) }
+fn first(lent: &Lent) -> usize
+    ensures { result ≡ first_difference lent.now.parity.now (parity lent.now.shape lent.now.«data».now) }
 {
-    if MOST_ROWS < s.r {
-        return first_by_points(s, data, lent);
+    if MOST_ROWS < lent.shape.r {
+        return first_by_points(lent);
     }
-    first_by_rows(s, data, lent)
+    first_by_rows(lent)
 }

@@ -1,5 +1,5 @@
 // Encoding of stripes given by check equations: the constants of the shape, times the data columns.
-ghost use Rattle.std.specs.Prelude.{◌≡◌, true, ◌*◌, length};
+ghost use Rattle.std.specs.Prelude.{◌≡◌, true, ◌*◌, ◌≤◌, length};
 ghost use Rattle.stripe.specs.Stripe.{by_points, parity};
 ghost use Rattle.coding.specs.Encode.{encode_refusal};
 
@@ -12,14 +12,22 @@ pub(crate) fn fill_by_points(s: Shape, data: &[u8], out: &mut [u8])
     requires { (encode_refusal s (length «data».now) (length out.old) ≡ 0) × (by_points s ≡ true) }
     ensures { out.new ≡ parity s «data».now }
 {
-    let n = s.r * s.k;
-    if n <= 256 {
-        let mut w = [0u8; 256];
-        fill_by(s, data, &mut w[0..n], out);
-        return;
+    if s.r * s.k <= 256 {
+        fill_in_room::<256>(s, data, out);
+    } else {
+        fill_in_room::<MOST_CONSTANTS>(s, data, out);
     }
-    let mut w = [0u8; MOST_CONSTANTS];
-    fill_by(s, data, &mut w[0..n], out);
+}
+
+// The same of up to N constants.
+fn fill_in_room<const N: usize>(s: Shape, data: &[u8], out: &mut [u8])
+    requires { (encode_refusal s (length «data».now) (length out.old) ≡ 0) × ((by_points s ≡ true)
+        × ((s.r * s.k ≤ N) × (N ≤ 65536))) }
+    ensures { out.new ≡ parity s «data».now }
+{
+    let mut w = [0u8; N];
+    let room = &mut w[..];
+    fill_by(s, data, &mut room[0..s.r * s.k], out);
 }
 
 // The same, with room for the constants.

@@ -2,25 +2,24 @@
 // column is its row; a prepared stripe then has its piggybacks added, run by run. Callers whose r is at most 3 need not pay for the
 // stack that points take: `encode_by_rows` is for them.
 ghost use Rattle.std.specs.Prelude.{◌≡◌, false, ℕ, ◌<◌, length};
+ghost use Rattle.stripe.specs.Refusal.{refusal_of};
 ghost use Rattle.stripe.specs.Stripe.{by_points, parity};
 ghost use Rattle.coding.specs.Encode.{encode_refusal, encoded, encoded_by_rows, IsRow, IsParity, Beside};
 
 use crate::by_points::fill_by_points;
 use rows::{add_row, fill_rows};
 use stripe::column::lent_refusal;
+use stripe::refusal::Refusal;
 use stripe::{MOST_ROWS, Shape};
 
-// 0, and the parity of the data is filled in; or 1, 2 or 5, and nothing is written.
-pub fn encode(s: Shape, data: &[u8], parity: &mut [u8]) -> u32
-    ensures value { result ≡ encode_refusal s (length «data».now) (length parity.old) }
+// The parity of the data is filled in; or what is lent is refused, and nothing is written.
+pub fn encode(s: Shape, data: &[u8], parity: &mut [u8]) -> Result<(), Refusal>
+    ensures value { refusal_of result ≡ encode_refusal s (length «data».now) (length parity.old) }
     ensures parity_after { parity.new ≡ encoded s «data».now parity.old }
 {
-    let no = lent_refusal(s, data.len(), parity.len());
-    if no != 0 {
-        return no;
-    }
+    lent_refusal(s, data.len(), parity.len())?;
     fill_parity(s, data, parity);
-    0
+    Ok(())
 }
 
 // The same by rows, with no answer: the parity of the data is filled in where r is at most MOST_ROWS and nothing is refused.
@@ -30,7 +29,7 @@ pub fn encode_by_rows(s: Shape, data: &[u8], parity: &mut [u8])
     if MOST_ROWS < s.r {
         return;
     }
-    if lent_refusal(s, data.len(), parity.len()) != 0 {
+    if lent_refusal(s, data.len(), parity.len()).is_err() {
         return;
     }
     fill_by_rows(s, data, parity);
@@ -70,11 +69,8 @@ fn add_piggybacks(s: Shape, data: &[u8], out: &mut [u8])
         × ((0 < s.t) × ((i : ℕ) → i < s.r → IsRow s «data».now i out.old)) }
     ensures { (i : ℕ) → i < s.r → IsParity s «data».now i out.new }
 {
-    let r = s.r;
-    let mut i = 0;
-    while i < r {
+    for i in 0..s.r {
         add_runs(s, data, i, out);
-        i += 1;
     }
 }
 
@@ -89,11 +85,9 @@ fn add_runs(s: Shape, data: &[u8], i: usize, out: &mut [u8])
     let l = s.l;
     let t = s.t;
     let m = s.run_length();
-    let mut j = r;
-    while j < t {
+    for j in r..t {
         let a = i * l + j * m;
         let e = a + m;
         add_row(data, k, l, j, i * m, &mut out[a..e]);
-        j += 1;
     }
 }

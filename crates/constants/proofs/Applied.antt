@@ -1,11 +1,12 @@
 -- The constants applied to columns: at each place the parity, the bytes that a mender computes, and the parity of a fold.
-use mathlib.Core.Path.{◌≡◌, refl, sym, ap, ap₂, ◌∙◌, subst}
-use mathlib.Core.List.{List, [], ◌∷◌, ◌++◌, map}
+use mathlib.Core.Path.{◌≡◌, sym, ap, ap₂, ◌∙◌, subst}
+use mathlib.Core.List.{List, ◌++◌, map}
 use Prim.Native.Nat.{ℕ, zero, suc, ◌+◌, ◌*◌, ◌%◌, ◌<◌, ◌≤◌}
-use native.Mathlib.Nat.{le_of_suc-le-suc, not-suc-le-zero, zero-mul, suc-mul, add_comm, mod-eq_of_lt}
+use native.Mathlib.Nat.{zero-mul, suc-mul, add_comm, mod-eq_of_lt}
 use native.Mathlib.Omega.{arith}
 use lib.ListN.{length, get_or, take, drop, length-map}
 use lib.Seq.{ext_get_or}
+use Rattle.std.proofs.lemmas.List.{get_or-map}
 use Rattle.field.specs.Bytes.{tabulate}
 use Rattle.field.proofs.Bytes.{tabulate-length, tabulate_at}
 use Rattle.points.specs.Points.{data_points, parity_points, points, parity_of}
@@ -23,16 +24,11 @@ use Rattle.lagrange.specs.Weights.{weights_of}
 use Rattle.matrix.specs.Matrix.{row_of, bytes_at}
 use Rattle.equations.specs.Chosen.{sources, computed, computed_byte}
 use Rattle.equations.proofs.Chosen.{sources-length, computed-length}
+use Rattle.constants.proofs.Points.{fold_points-length}
 use Rattle.constants.specs.Constants.{encoding_of, folding_of, mending_of}
 
-map_at : (f : ℕ → ℕ) (xs : List ℕ) (i : ℕ) → i < length xs → get_or (map f xs) i 0 ≡ f (get_or xs i 0)
-map_at f [] i l = absurd (not-suc-le-zero l)
-map_at f (x ∷ xs) zero l = refl
-map_at f (x ∷ xs) (suc i) l = map_at f xs i (le_of_suc-le-suc l)
-
 map_same : (f g : ℕ → ℕ) (xs : List ℕ) → ((x : ℕ) → f x ≡ g x) → map f xs ≡ map g xs
-map_same f g [] h = refl
-map_same f g (x ∷ xs) h = ap₂ (λ (y : ℕ) (ys : List ℕ). y ∷ ys) (h x) (map_same f g xs h)
+map_same f g xs h i = map (λ x. h x i) xs
 
 -- ---- a row of weights
 
@@ -43,7 +39,7 @@ row_here bs ys v h =
     (λ i m.
     let l : i < length ys = subst (λ (n : ℕ). i < n) (tabulate-length (length ys) _) m in
     tabulate_at (length ys) _ i l ∙ tabulate_at (length bs * length ys) _ (v * length ys + i) (place_lt h l)
-    ∙ ap₂ (λ (a b : ℕ). lagrange bs a (get_or ys b 0)) (place_column v l) (place_byte v l) ∙ sym (map_at (lagrange bs v) ys i l))
+    ∙ ap₂ (λ (a b : ℕ). lagrange bs a (get_or ys b 0)) (place_column v l) (place_byte v l) ∙ sym (get_or-map (lagrange bs v) ys i 0 0 l))
 
 pub row_of_weights : (bs ys : List ℕ) (m v : ℕ) → length ys ≡ m → v < length bs → row_of m (weights_of bs ys) v ≡ map (lagrange bs v) ys
 row_of_weights bs ys m v e h = ap (λ (n : ℕ). row_of n (weights_of bs ys) v) (sym e) ∙ row_here bs ys v h
@@ -58,7 +54,7 @@ bytes_in_order xs from l p m =
     (λ i h.
     let n : i < length (tabulate m (λ i. i)) = subst (λ (n : ℕ). i < n) (length-map (tabulate m (λ i. i)) _) h in
     let l' : i < m = subst (λ (n : ℕ). i < n) (tabulate-length m _) n in
-    map_at _ (tabulate m (λ i. i)) i n ∙ ap (λ (c : ℕ). get_or xs (from + c * l + p) 0) (tabulate_at m (λ i. i) i l')
+    get_or-map _ (tabulate m (λ i. i)) i 0 0 n ∙ ap (λ (c : ℕ). get_or xs (from + c * l + p) 0) (tabulate_at m (λ i. i) i l')
     ∙ sym (across_at xs l p from m i l'))
 
 pub order_small : (m : ℕ) → m ≤ 256 → tabulate m (λ i. i % 256) ≡ tabulate m (λ i. i)
@@ -117,10 +113,6 @@ parts_across r l p zero xs h = sym (ap (λ (m : ℕ). across xs l p 0 m) (zero-m
 parts_across r l p (suc n) xs h =
     ap₂ ◌++◌ (across-take xs l p r h) (parts_across r l p n (drop (r * l) xs) h) ∙ sym (across_both xs r (n * r) l p)
     ∙ ap (λ (m : ℕ). across xs l p 0 m) (add_comm r (n * r) ∙ sym (suc-mul n r))
-
-fold_points-length : (k r n : ℕ) → length (fold_points k r n) ≡ n * r
-unfolding fold_points
-fold_points-length k r n = tabulate-length (n * r) _
 
 pub fold_applied : (k r l n : ℕ) (xs : List ℕ) (j p : ℕ) → r ≤ 255 → j < r → p < l
     → dot (row_of (n * r) (folding_of k r n) j) (bytes_at xs 0 l p (tabulate (n * r) (λ i. i)))

@@ -8,12 +8,12 @@ use native.Mathlib.Nat.{mul-le-mul, mul-le-mul_left, add-mul}
 use native.Mathlib.Omega.{arith}
 use lib.ListN.{length}
 use borrow.Author.Tests.{le-leb, eq-eqb}
-use Rattle.field.proofs.Bytes.{tabulate-length}
 use Rattle.field.proofs.Cases.{below_or_from}
 use Rattle.points.specs.Points.{data_points, parity_points}
 use Rattle.points.specs.Folding.{fold_points}
 use Rattle.points.proofs.Distinct.{data_points-length, parity_points-length}
 use Rattle.lagrange.specs.Weights.{weights_fit, weights_of, weighed}
+use Rattle.lagrange.proofs.Filled.{weights_length}
 use Rattle.constants.specs.Constants.{most_constants, encoding_of, folding_of, encodes, folds}
 use Rattle.constants.proofs.Points.{fold_points-length}
 
@@ -34,10 +34,6 @@ weights_made bs ys out r m e f h n g =
     ap (λ (b : Bool). cond b (weights_of bs ys) out)
     (ap₂ ◌&&◌ (ap₂ ◌&&◌ (le-leb (length bs) 16 (omega arith)) (le-leb (length ys) 255 (omega arith)))
     (eq-eqb (length out) (length bs * length ys) (g ∙ ap₂ ◌*◌ (sym e) (sym f))))
-
-pub weights_length : (bs ys : List ℕ) → length (weights_of bs ys) ≡ length bs * length ys
-unfolding weights_of
-weights_length bs ys = tabulate-length (length bs * length ys) _
 
 pub encoding_made : (k r : ℕ) (out : List ℕ) → k + r ≤ 255 → r ≤ 16 → length out ≡ r * k → encodes k r out ≡ encoding_of k r
 unfolding encodes encoding_of

@@ -27,11 +27,9 @@ fn ascending(out: &mut [u8])
     ensures { out.new ≡ tabulate (length out.old) gpow }
 {
     let mut x = 1u8;
-    let mut i = 0;
-    while i < out.len() {
-        out[i] = x;
+    for place in out.iter_mut() {
+        *place = x;
         x = double(x);
-        i += 1;
     }
 }
 
@@ -40,11 +38,10 @@ fn descending(out: &mut [u8], e: usize)
     requires { (length out.old ≤ e + 1) × (e < 131072) }
     ensures { out.new ≡ tabulate (length out.old) (λ i. gpow (e - i)) }
 {
-    let mut i = out.len();
-    let last = Gf::power(e + 1 - i);
+    let n = out.len();
+    let last = Gf::power(e + 1 - n);
     let mut x = last.0;
-    while 0 < i {
-        i = i - 1;
+    for i in (0..n).rev() {
         out[i] = x;
         x = double(x);
     }
@@ -65,12 +62,9 @@ fn fill_fold_points(out: &mut [u8], k: usize, r: usize, n: usize)
     requires { (length out.old ≡ n * r) × ((k ≤ 255) × ((r ≤ 16) × ((n ≤ 255) × (n * r ≤ 255)))) }
     ensures { out.new ≡ fold_points k r n }
 {
-    let mut i = 0;
-    while i < n {
+    for i in 0..n {
         let a = i * r;
-        let e = a + r;
-        descending(&mut out[a..e], i * k + 254);
-        i += 1;
+        descending(&mut out[a..a + r], i * k + 254);
     }
 }
 
@@ -79,11 +73,8 @@ fn fill_chosen(out: &mut [u8], points: &[u8], at: &[u8])
     requires { length out.old ≡ length at.now }
     ensures { out.new ≡ entries points.now at.now }
 {
-    let mut v = 0;
-    while v < at.len() {
-        let c = at[v] as usize;
-        out[v] = if c < points.len() { points[c] } else { 0 };
-        v += 1;
+    for v in 0..at.len() {
+        out[v] = points.get(usize::from(at[v])).copied().unwrap_or(0);
     }
 }
 
@@ -93,10 +84,8 @@ fn fill_chosen(out: &mut [u8], points: &[u8], at: &[u8])
 pub fn in_order(out: &mut [u8])
     ensures { out.new ≡ tabulate (length out.old) (λ i. i % 256) }
 {
-    let mut i = 0;
-    while i < out.len() {
+    for i in 0..out.len() {
         out[i] = (i % 256) as u8;
-        i += 1;
     }
 }
 

@@ -10,10 +10,8 @@ use lib.ListN.{length}
 use Rattle.stripe.specs.declared.Shape.{Shape}
 use Rattle.lost.specs.Positions.{positions}
 use Rattle.mending.specs.Mend.{mend_refusal, Restored, Mended}
-use Rattle.record.specs.declared.read.Got.{Got}
-use Rattle.writing.specs.declared.Written.{Written}
-use Rattle.record.specs.Reading.{read_refusal}
-use Rattle.writing.specs.Writing.{write_refusal}
+use Rattle.record.specs.Reading.{Got, read_refusal}
+use Rattle.writing.specs.Writing.{Written, write_refusal}
 use Rattle.demands.specs.Calls.{Reads, Writes}
 use Rattle.field.proofs.Cases.{zero_or_not}
 

@@ -13,10 +13,8 @@ use Rattle.stripe.specs.declared.Shape.{Shape}
 use Rattle.stripe.specs.Shape.{length_allowed, data_length, parity_length}
 use Rattle.stripe.specs.Stripe.{parity, Codeword}
 use Rattle.stripe.specs.Column.{lent_refusal}
-use Rattle.checking.specs.declared.Wrong.{Wrong}
-use Rattle.checking.specs.declared.Wrong.TheVariants.{Nowhere, At, Refused}
 use Rattle.checking.specs.Compare.{agree, first_difference}
-use Rattle.checking.specs.Check.{number_of, first_wrong, FirstDisagreement}
+use Rattle.checking.specs.Check.{Wrong, Nowhere, At, Refused, number_of, first_wrong, FirstDisagreement}
 use Rattle.checking.proofs.Where.{wrong_nowhere, wrong_at}
 use Rattle.checking.proofs.Numbers.{Judged, first_found, number_refused, number_judged, number_codeword}
 use Rattle.record.specs.Reading.{first_of, unless}

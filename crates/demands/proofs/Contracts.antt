@@ -10,6 +10,8 @@ use contract.Monad.{Fun, fact}
 use contract.Lifetimes.{Lfts}
 use borrow.Fn.World.{ArgsD, ResD}
 use denote.Triple.Clauses.{AtExit}
+use Rattle.record.specs.Reading as reading
+use Rattle.writing.specs.Writing as writing
 use Rattle.demands.specs.Calls.{Encodes, Mends, Folds, PlanRefuses, PlanColumns, PlanBytes, PlanSpans, Column, Reads, Writes, MendsRecord, Prints}
 use Rattle.demands.specs.Calls.{Checks, ReadsRecord, WritesRecord, PlanColumnsWritten, PlanColumnsSum, PlanBytesWritten, PlanBytesSum}
 use Rattle.shelf.specs.contracts.shelf_encode as encode
@@ -264,11 +266,11 @@ pub column_promises : (κs : Lfts 1) (a : ArgsD column.signature κs) (v : ResD 
 column_promises κs a v s = refl
 
 pub read_promises : (κs : Lfts 3) (a : ArgsD read.signature κs) (v : ResD read.signature κs) (s : AtExit read.ended κs)
-    → read-reads.Post κs a v s ≡ Reads a.0.now a.1.0.now a.1.1.0.now v s.1.0.now s.1.1.0.now
+    → read-reads.Post κs a v s ≡ Reads a.0.now a.1.0.now a.1.1.0.now (reading.reported v) s.1.0.now s.1.1.0.now
 read_promises κs a v s = refl
 
 pub write_promises : (κs : Lfts 3) (a : ArgsD write.signature κs) (v : ResD write.signature κs) (s : AtExit write.ended κs)
-    → write-reads.Post κs a v s ≡ Writes a.0 a.1.0.now a.1.1.0.now a.1.1.1.0.now v s.1.1.1.0.now
+    → write-reads.Post κs a v s ≡ Writes a.0 a.1.0.now a.1.1.0.now a.1.1.1.0.now (writing.reported v) s.1.1.1.0.now
 write_promises κs a v s = refl
 
 pub read_record_promises : (κs : Lfts 4) (a : ArgsD read-record.signature κs) (v : ResD read-record.signature κs) (s : AtExit read-record.ended κs)
@@ -283,7 +285,7 @@ pub write_record_promises : (κs : Lfts 4) (a : ArgsD write-record.signature κs
 write_record_promises κs a v s = refl
 
 pub mend_record_promises : (κs : Lfts 3) (a : ArgsD mend-record.signature κs) (v : ResD mend-record.signature κs) (s : AtExit mend-record.ended κs)
-    → mend-record-reads.Post κs a v s ≡ MendsRecord a.0.now a.1.0.now a.1.1.0.now v s.1.0.now s.1.1.0.now
+    → mend-record-reads.Post κs a v s ≡ MendsRecord a.0.now a.1.0.now a.1.1.0.now (reading.reported v) s.1.0.now s.1.1.0.now
 mend_record_promises κs a v s = refl
 
 pub answer_promises : (κs : Lfts 2) (a : ArgsD answer.signature κs) (v : ResD answer.signature κs) (s : AtExit answer.ended κs)

@@ -29,16 +29,13 @@ use Rattle.plan.specs.declared.Span.{Span}
 use Rattle.plan.specs.Plan.{fold_refusal, columns_read, bytes_read, plan, summed, wide_shape}
 use Rattle.plan.specs.Cost.{columns_needed, bandwidth_needed}
 use Rattle.fold.specs.Fold.{fold_of, fold_verdict, fold_filled, cut_out, wide_data, wide_stripe, disagreement}
-use Rattle.record.specs.declared.read.Got.{Got}
-use Rattle.writing.specs.declared.Written.{Written}
 use Rattle.record.specs.Layout.{record_of, survivors, restored}
-use Rattle.writing.specs.Writing.{LaidOut}
-use Rattle.record.specs.Reading.{shape_read, first_of, unless, count_of, lost_listed, columns_filled, positions_filled}
+use Rattle.writing.specs.Writing.{Written, LaidOut}
+use Rattle.record.specs.Reading.{Got, shape_read, first_of, unless, count_of, lost_listed, columns_filled, positions_filled}
 use Rattle.record.specs.Reading.{stripe_refusal, content_refusal, read_refusal}
 use Rattle.record.specs.Reading.{got_of}
 use Rattle.writing.specs.Writing.{write_refusal}
-use Rattle.answer.specs.declared.mended.Answer.{Answer}
-use Rattle.answer.specs.Answer.{described}
+use Rattle.answer.specs.Answer.{Answer, described}
 use Rattle.text.specs.Text.{text_room}
 use Rattle.shelf.specs.Shelf.{shape_of, spans_refusal, spans_filled}
 use Rattle.shelf.specs.Records.{read_number, numbers_of}

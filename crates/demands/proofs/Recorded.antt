@@ -7,8 +7,7 @@ use native.Mathlib.Omega.{arith}
 use borrow.Author.Tests.{eq-eqb, eqb-true}
 use lib.Dec.{eqb}
 use lib.ListN.{length}
-use Rattle.record.specs.declared.read.Got.{Got}
-use Rattle.record.specs.Reading.{unless, columns_filled, positions_filled, read_refusal, got_of}
+use Rattle.record.specs.Reading.{Got, unless, columns_filled, positions_filled, read_refusal, got_of}
 use Rattle.record.proofs.Refusals.{first_zero}
 use Rattle.record.proofs.Accepted.{unless-zero}
 use Rattle.shelf.specs.Records.{read_number, numbers_of}

@@ -15,15 +15,12 @@ use Rattle.plan.specs.declared.Span.{Span}
 use Rattle.plan.specs.Plan.{stripes_allowed, new_allowed, fold_refusal, plan, span_at, columns_read, bytes_read}
 use Rattle.plan.specs.Plan.{columns_written, bytes_written, access_cost, conversion_bandwidth}
 use Rattle.fold.specs.Fold.{fold_verdict, fold_filled}
-use Rattle.record.specs.declared.read.Got.{Got}
-use Rattle.writing.specs.declared.Written.{Written}
 use Rattle.number.specs.Number.{number_refusal, next_of}
 use Rattle.record.specs.Layout.{record_of}
-use Rattle.record.specs.Reading.{shape_read, first_of, unless, first_number, second_number, third_number, fourth_number, count_number}
+use Rattle.record.specs.Reading.{Got, shape_read, first_of, unless, first_number, second_number, third_number, fourth_number, count_number}
 use Rattle.record.specs.Reading.{count_of, lost_listed, columns_start, positions_refusal, columns_refusal, got_of, stripe_read, lost_read}
-use Rattle.writing.specs.Writing.{written_of, out_written}
-use Rattle.answer.specs.declared.mended.Answer.{Answer}
-use Rattle.answer.specs.Answer.{described, Answered, Printed}
+use Rattle.writing.specs.Writing.{Written, written_of, out_written}
+use Rattle.answer.specs.Answer.{Answer, described, Answered, Printed}
 use Rattle.text.specs.Text.{stripe_text, refusal_text}
 use Rattle.shelf.specs.Shelf.{shape_of, spans_refusal, spans_filled}
 use Rattle.shelf.specs.Check.{column_left, place_left}

@@ -1,9 +1,10 @@
 -- What the source makes by shifting and reducing: twice a byte and the low powers of g, each by one test over all that can be asked for; the
 -- product, bit by bit as it is defined; and the other powers, by squaring.
-use mathlib.Core.Path.{◌≡◌, sym, ap, ap₂, ◌∙◌}
+use mathlib.Core.Path.{◌≡◌, refl, sym, ap, ap₂, ◌∙◌}
 use mathlib.Core.Bool.{Bool}
 use Prim.Native.Nat.{ℕ, zero, suc, ◌+◌, ◌-◌, ◌*◌, ◌/◌, ◌%◌, ◌^◌, ◌<◌, ◌≤◌}
-use native.Mathlib.Nat.{mod-eq_of_lt}
+use native.Mathlib.Nat.{mod-eq_of_lt, div-one, div-div-eq-div-mul, pow-suc}
+use native.Mathlib.Numerals.{add-one}
 use native.Mathlib.Omega.{arith}
 use lib.Bits.{bit_xor}
 use lib.Dec.{eqb, eqb→eq}
@@ -42,6 +43,32 @@ pub product_done : (n v s a b : ℕ) → n ≤ 0 → s ⊕ shifted n a b ≡ v �
 unfolding shifted
 product_done zero v s a b p e = sym (add-zero s) ∙ e
 product_done (suc n) v s a b p e = omega arith
+
+-- ---- the same where a bit's number counts up
+
+pub bits_start : (a b : ℕ) → b < 256 → 0 ⊕ shifted 8 (a / 1) b ≡ a ⊗ b
+unfolding ◌⊗◌
+bits_start a b h = zero-add (shifted 8 (a / 1) b) ∙ ap₂ (shifted 8) (div-one a) (sym (mod-eq_of_lt h))
+
+lowest : (n x y b d : ℕ) → b < 256 → y ≡ x / 2 → (0 < n → d ≡ 2 ⊗ b) → shifted (suc n) x b ≡ times (x % 2) b ⊕ shifted n y d
+unfolding shifted
+lowest zero x y b d h e f = refl
+lowest (suc n) x y b d h e f = ap₂ (λ (u v : ℕ). times (x % 2) b ⊕ shifted (suc n) u v) (sym e) (sym (f (omega arith) ∙ two_mul b h))
+
+-- after the last bit nothing is asked of d
+pub bits_turn : (i v s a b t d : ℕ) → i < 8 → b < 256 → s ⊕ shifted (8 - i) (a / 2 ^ i) b ≡ v → t ≡ times (a / 2 ^ i % 2) b → (i < 7 → d ≡ 2 ⊗ b)
+    → s ⊕ t ⊕ shifted (8 - (i + 1)) (a / 2 ^ (i + 1)) d ≡ v
+bits_turn i v s a b t d l h e f g =
+    let left : suc (8 - (i + 1)) ≡ 8 - i = omega arith in
+    let half : a / 2 ^ (i + 1) ≡ a / 2 ^ i / 2 =
+    ap (λ (p : ℕ). a / p) (ap (λ (k : ℕ). 2 ^ k) (add-one i) ∙ pow-suc 2 i) ∙ sym (div-div-eq-div-mul a (2 ^ i) 2) in
+    let next = lowest (8 - (i + 1)) (a / 2 ^ i) (a / 2 ^ (i + 1)) b d h half (λ p. g (omega arith)) in
+    add_assoc s t _ ∙ ap (λ (x : ℕ). s ⊕ (x ⊕ shifted (8 - (i + 1)) (a / 2 ^ (i + 1)) d)) f
+    ∙ ap (λ (x : ℕ). s ⊕ x) (sym next ∙ ap (λ (k : ℕ). shifted k (a / 2 ^ i) b) left) ∙ e
+
+pub bits_done : (i v s a b : ℕ) → i ≡ 8 → s ⊕ shifted (8 - i) a b ≡ v → s ≡ v
+unfolding shifted
+bits_done i v s a b l e = sym (add-zero s) ∙ ap (λ (k : ℕ). s ⊕ shifted (8 - k) a b) (sym l) ∙ e
 
 -- ---- powers
 

@@ -53,15 +53,11 @@ impl Gf {
     pub fn product(self, o: Gf) -> Gf
         ensures { result.0 ≡ self.0 ⊗ o.0 }
     {
-        let mut a = self.0;
         let mut b = o.0;
-        let mut sum = 0u8;
-        let mut n = 8usize;
-        while 0 < n {
-            sum = sum ^ low_times(a, b);
-            a = a / 2;
+        let mut sum = 0;
+        for i in 0..8u32 {
+            sum ^= low_times(self.0 >> i, b);
             b = double(b);
-            n = n - 1;
         }
         Gf(sum)
     }
@@ -74,8 +70,8 @@ impl Gf {
         if self.0 == 0 {
             return self;
         }
-        let mut u = (Gf::POLYNOMIAL as u32) * 65536;
-        let mut v = wide(self.0) * 65536 + 1;
+        let mut u = u32::from(Gf::POLYNOMIAL) * 65536;
+        let mut v = u32::from(self.0) * 65536 + 1;
         while 131072 <= v {
             let w = rest(u, v);
             u = v;
@@ -129,15 +125,15 @@ fn rest(u: u32, v: u32) -> u32
     requires { 0 < v }
     ensures { Rest v u result }
 {
-    let z = u32::leading_zeros(v);
+    let z = v.leading_zeros();
     let mut w = u;
-    while u32::leading_zeros(w) <= z {
-        w = w ^ (v << (z - u32::leading_zeros(w)));
+    while w.leading_zeros() <= z {
+        w ^= v << (z - w.leading_zeros());
     }
     w
 }
 
-// g^0, g^8, .. g^56 as the bytes of a number, the first lowest.
+// g^0, g^8, .. g^56 as the bytes of a number, the first lowest. No array: the compiler would copy it to the stack, and folds took longer.
 const EIGHTHS: u64 = 0x5d466a9d8f4c1d01;
 
 // g^64, g^72, .. g^120 likewise.
@@ -163,11 +159,4 @@ fn low_power(n: usize) -> u8
     let h = v / 256;
     let q = h ^ (h / 16) ^ (h / 32) ^ (h / 64);
     ((v ^ q ^ (q << 2) ^ (q << 3) ^ (q << 4)) % 256) as u8
-}
-
-// The same number.
-fn wide(x: u8) -> u32
-    ensures { result ≡ x }
-{
-    x as u32
 }

@@ -3,7 +3,7 @@ use mathlib.Core.Path.{◌≡◌, refl, sym, ap, ◌∙◌, subst}
 use mathlib.Core.Bool.{Bool, true, cond}
 use mathlib.Core.List.{List, map}
 use mathlib.Core.Logic.{◌⊎◌, inl, inr}
-use Prim.Native.Nat.{ℕ, ◌+◌, ◌*◌, ◌%◌, ◌<◌, ◌≤◌}
+use Prim.Native.Nat.{ℕ, ◌+◌, ◌*◌, ◌%◌, ◌<◌, ◌≤◌, min}
 use native.Mathlib.Nat.{mul-le-mul, mul-le-mul_left, mul_assoc}
 use native.Mathlib.Omega.{arith}
 use lib.ListN.{length, get_or}
@@ -46,6 +46,13 @@ module _ (s : Shape) where
   pub read_parity_lem : s.r ≤ s.k → read_columns s ≡ s.r
   unfolding read_columns
   read_parity_lem h = ap (λ (b : Bool). cond b s.k s.r) (le-ltb s.k s.r h)
+
+  pub read_least : min s.k s.r ≡ read_columns s
+  read_least = go (below_or_from s.k s.r)
+    where
+      go : (s.k < s.r) ⊎ (s.r ≤ s.k) → min s.k s.r ≡ read_columns s
+      go (inl h) = omega (arith, read_data h)
+      go (inr h) = omega (arith, read_parity_lem h)
 
   data_constants : (n : ℕ) → s.k < s.r → read_constants s n ≡ encoding_of (n * s.k) s.r
   unfolding read_constants

@@ -1,6 +1,7 @@
 // The fold of stripes given by check equations, from the columns read of them: the constants of the fold, times these columns.
-ghost use Rattle.std.specs.Prelude.{◌≡◌, true, ◌*◌, length};
+ghost use Rattle.std.specs.Prelude.{◌≡◌, true, ◌*◌, ◌≤◌, length};
 ghost use Rattle.stripe.specs.Stripe.{by_points};
+ghost use Rattle.constants.specs.Constants.{most_constants};
 ghost use Rattle.plan.specs.Plan.{fold_refusal};
 ghost use Rattle.fold.specs.Fold.{fold_of};
 ghost use Rattle.fold.specs.Shares.{ReadsColumns, read_columns, read_constants};
@@ -13,10 +14,7 @@ use stripe::Shape;
 fn read_columns(s: Shape) -> usize
     ensures { result ≡ read_columns s }
 {
-    if s.k < s.r {
-        return s.k;
-    }
-    s.r
+    s.k.min(s.r)
 }
 
 // The constants. Of data columns they are those of the encoding of the wide stripe.
@@ -46,8 +44,21 @@ fn fill_columns(s: Shape, stripes: usize, w: &[u8], read: &[u8], parity: &mut [u
     apply(r, &at[0..m], w, read, 0, l, l, parity);
 }
 
-// The parity columns of the wide stripe. The constants take not much more room than they need; what makes them is apart, so that its own
-// room is free again before the columns are gone over.
+// The parity columns of the wide stripe, with so much room for the constants. What makes them is apart, so that its own room is free again
+// before the columns are gone over.
+fn fill_in<const ROOM: usize>(s: Shape, stripes: usize, read: &[u8], parity: &mut [u8])
+    requires room { (s.r * (stripes * read_columns s) ≤ ROOM) × (ROOM ≤ most_constants) }
+    requires lent { ReadsColumns s stripes (length read.now) (length parity.old) }
+    ensures { parity.new ≡ fold_of s stripes s.r read.now }
+{
+    let m = stripes * read_columns(s);
+    let size = s.r * m;
+    let mut w = [0u8; ROOM];
+    fill_constants(s, stripes, &mut w[..size]);
+    fill_columns(s, stripes, &w[..size], read, parity);
+}
+
+// The parity columns of the wide stripe. The constants take not much more room than they need.
 pub(crate) fn fill_by_points(s: Shape, stripes: usize, read: &[u8], parity: &mut [u8])
     requires { ReadsColumns s stripes (length read.now) (length parity.old) }
     ensures { parity.new ≡ fold_of s stripes s.r read.now }
@@ -55,12 +66,8 @@ pub(crate) fn fill_by_points(s: Shape, stripes: usize, read: &[u8], parity: &mut
     let m = stripes * read_columns(s);
     let size = s.r * m;
     if size <= 256 {
-        let mut w = [0u8; 256];
-        fill_constants(s, stripes, &mut w[0..size]);
-        fill_columns(s, stripes, &w[0..size], read, parity);
-        return;
+        fill_in::<256>(s, stripes, read, parity);
+    } else {
+        fill_in::<MOST_CONSTANTS>(s, stripes, read, parity);
     }
-    let mut w = [0u8; MOST_CONSTANTS];
-    fill_constants(s, stripes, &mut w[0..size]);
-    fill_columns(s, stripes, &w[0..size], read, parity);
 }

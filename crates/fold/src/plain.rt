@@ -37,9 +37,7 @@ fn fill_weights(w: &mut [u8], e: usize)
     requires { (length w.old ≤ 255) × (e ≤ 510) }
     ensures { w.new ≡ tabulate (length w.old) (λ i. gpow (i * e)) }
 {
-    let mut i = w.len();
-    while 0 < i {
-        i -= 1;
+    for i in 0..w.len() {
         let x = Gf::power(i * e % Gf::ORDER);
         w[i] = x.0;
     }
@@ -64,14 +62,13 @@ fn step_columns(row: &mut [u8], e: usize, n: usize, d: &[u8], from: usize, strid
     ensures { row.new ≡ columns_row e d.now from stride n (length row.old) }
 {
     let last = n - 1;
-    let mut i = n;
-    while 0 < i {
-        i -= 1;
+    for i in (0..n).rev() {
         take_bytes(row, i == last, e, d, from + i * stride);
     }
 }
 
 // The row.
+// `InColumns` is of the row's length too, so a struct of d, from, stride and n could not keep it.
 fn fill_row(row: &mut [u8], e: usize, n: usize, d: &[u8], from: usize, stride: usize)
     requires { (e ≤ 510) × InColumns (length d.now) from stride n (length row.old) }
     ensures { row.new ≡ columns_row e d.now from stride n (length row.old) }
@@ -90,11 +87,9 @@ pub(crate) fn fill_plain(s: Shape, n: usize, f: usize, d: &[u8], parity: &mut [u
 {
     let k = s.k;
     let l = s.l;
-    let mut j = 0;
-    while j < f {
+    for j in 0..f {
         let a = j * l;
         let b = a + l;
         fill_row(&mut parity[a..b], j * k, n, d, a, f * l);
-        j += 1;
     }
 }

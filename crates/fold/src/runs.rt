@@ -48,13 +48,11 @@ pub(crate) fn take_runs(s: Shape, f: usize, first: bool, d: &[u8], rows: &[u8], 
     let cut = s.runs();
     let q = s.run_length();
     let all = f * cut;
-    let mut i = 0;
-    while i < all {
+    for i in 0..all {
         let a = i * q;
         let e = a + q;
         let j = i / cut;
         let share = share_of(s, j, i % cut);
         take_share(&mut parity[a..e], first, j * k, share, d, rows);
-        i += 1;
     }
 }

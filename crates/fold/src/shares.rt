@@ -12,6 +12,7 @@ pub enum Share {
 }
 
 // What stays of the run, nothing or g^w times it, and at each place the byte of the second from `at` on.
+// The flag is the stripe's and w the row's: as one Option it would be put together anew for each run.
 pub(crate) fn take_bytes(acc: &mut [u8], first: bool, w: usize, d: &[u8], at: usize)
     requires { at + length acc.old ≤ length d.now }
     ensures { acc.new ≡ stepped first w acc.old d.now at }
@@ -19,6 +20,7 @@ pub(crate) fn take_bytes(acc: &mut [u8], first: bool, w: usize, d: &[u8], at: us
     let end = at + acc.len();
     let part = &d[at..end];
     if first {
+        // `copy_from_slice` would call memmove, and C is promised that nothing but memcpy and memset is called.
         lanes::copy(acc, part);
         return;
     }

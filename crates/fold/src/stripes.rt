@@ -1,6 +1,6 @@
 // The stripes of a fold by rows that reads parity, from the last to the first: each is taken into the wide parity. The rows of what is read
 // of a prepared stripe's data are formed first, all at once, by the encoder.
-ghost use Rattle.std.specs.Prelude.{◌≡◌, ◌*◌, length};
+ghost use Rattle.std.specs.Prelude.{◌≡◌, ◌*◌, ◌≤◌, length};
 ghost use Rattle.stripe.specs.Shape.{shape_refusal};
 ghost use Rattle.plan.specs.Plan.{fold_refusal, kind_of, bytes_each, bytes_read};
 ghost use Rattle.fold.specs.Fold.{part_bytes, fold_of};
@@ -56,13 +56,22 @@ fn take_all(s: Shape, n: usize, f: usize, d: &[u8], rows: &mut [u8], parity: &mu
 {
     let each = d.len() / n;
     let last = n - 1;
-    let mut l = n;
-    while 0 < l {
-        l -= 1;
+    for l in (0..n).rev() {
         let a = l * each;
         let b = a + each;
         take_stripe(s, f, l == last, &d[a..b], rows, parity);
     }
+}
+
+// The same, with so much room for the rows.
+fn take_in<const ROOM: usize>(s: Shape, n: usize, f: usize, d: &[u8], parity: &mut [u8])
+    requires room { (f * part_bytes s ≤ ROOM) × (ROOM ≤ 8192) }
+    requires lent { ReadsParity s f × ((fold_refusal s n f ≡ 0) × ((length d.now ≡ bytes_read s n f) × (length parity.old ≡ f * s.l))) }
+    ensures { parity.new ≡ fold_of s n f d.now }
+{
+    let mut rows = [0u8; ROOM];
+    let size = f * part_bytes(s);
+    take_all(s, n, f, d, &mut rows[..size], parity);
 }
 
 // The parity columns of the wide stripe, from the joined bytes of the plan. Small folds don't pay for a large room.
@@ -72,15 +81,10 @@ pub(crate) fn fill_parity(s: Shape, n: usize, f: usize, d: &[u8], parity: &mut [
 {
     let size = f * part_bytes(s);
     if size <= 192 {
-        let mut rows = [0u8; 192];
-        take_all(s, n, f, d, &mut rows[..size], parity);
-        return;
+        take_in::<192>(s, n, f, d, parity);
+    } else if size <= 1536 {
+        take_in::<1536>(s, n, f, d, parity);
+    } else {
+        take_in::<8192>(s, n, f, d, parity);
     }
-    if size <= 1536 {
-        let mut rows = [0u8; 1536];
-        take_all(s, n, f, d, &mut rows[..size], parity);
-        return;
-    }
-    let mut rows = [0u8; 8192];
-    take_all(s, n, f, d, &mut rows[..size], parity);
 }

@@ -34,6 +34,9 @@ weights_fit_lem r m c e =
 pub filled_start : (bs ys out : List ℕ) → length out ≡ length bs * length ys → Filled bs ys 0 out
 filled_start bs ys out long = record { long = long; at = λ v c h k. absurd (not-suc-le-zero k) }
 
+pub filled_to : (bs ys : List ℕ) {out : List ℕ} {m n : ℕ} → m ≡ n → Filled bs ys m out → Filled bs ys n out
+filled_to bs ys {out} e h = subst (λ (x : ℕ). Filled bs ys x out) e h
+
 -- the w points from `at` on, one to a lane
 pub filled_turn : (bs ys y : List ℕ) {rows out out' : List ℕ} (at w : ℕ) → w ≤ 16 → ((q : ℕ) → q < w → get_or y q 0 ≡ get_or ys (at + q) 0)
     → Polynomials bs y rows → Laid rows (length bs) (length ys) at w out out' → Filled bs ys at out → Filled bs ys (at + w) out'
@@ -63,7 +66,7 @@ weights_at bs ys v c hv hc =
     tabulate_at (length bs * length ys) _ (v * length ys + c) (place_lt hv hc)
     ∙ ap₂ (λ (a b : ℕ). lagrange bs a (get_or ys b 0)) (place_column v hc) (place_byte v hc)
 
-weights_length : (bs ys : List ℕ) → length (weights_of bs ys) ≡ length bs * length ys
+pub weights_length : (bs ys : List ℕ) → length (weights_of bs ys) ≡ length bs * length ys
 unfolding weights_of
 weights_length bs ys = tabulate-length (length bs * length ys) _
 

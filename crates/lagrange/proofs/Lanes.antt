@@ -8,9 +8,10 @@ use native.Mathlib.Nat.{not-suc-le-zero, mul-le-mul_right, suc-mul}
 use native.Mathlib.Omega.{arith}
 use borrow.Rule.Slice.PartMut.{put_mid}
 use lib.Dec.{leb, ltb, lit<}
-use lib.ListN.{length, get_or, set, take, drop, get_or-append}
-use lib.Seq.{get_or-set_same, get_or-set_other, get_or-append-add}
+use lib.ListN.{length, get_or, set, take, drop, replicate, get_or-append, get_or-replicate, length-replicate}
+use lib.Seq.{get_or-append-add}
 use borrow.Author.Tests.{lt-ltb, le-ltb, le-leb, lt-leb}
+use Rattle.std.proofs.lemmas.List.Edits.{fill_by_more}
 use Rattle.field.specs.Field.{◌⊕◌, ◌⊗◌}
 use Rattle.field.proofs.Cases.{below_or_from, same_or_not}
 use Rattle.field.proofs.Mul.{mul-one, one-mul, mul_comm, mul_assoc, inverse_lt}
@@ -26,13 +27,7 @@ use Rattle.lagrange.proofs.Away.{away-lt, away_first, away_next, away_end, away_
 -- the entries before place q are those of f, and the next is stored
 pub set_turn : (xs : List ℕ) (f : ℕ → ℕ) (q x : ℕ) → q < length xs → x ≡ f q → ((i : ℕ) → i < q → get_or xs i 0 ≡ f i)
     → (i : ℕ) → i < q + 1 → get_or (set xs q x) i 0 ≡ f i
-set_turn xs f q x h is old i l = ⊎_elim before own (below_or_from i q)
-  where
-    before : i < q → get_or (set xs q x) i 0 ≡ f i
-    before k = get_or-set_other xs q i x 0 (λ e. omega arith) ∙ old i k
-
-    own : q ≤ i → get_or (set xs q x) i 0 ≡ f i
-    own k = let e : q ≡ i = omega arith in subst (λ (z : ℕ). get_or (set xs q x) z 0 ≡ f z) e (get_or-set_same xs q x 0 h ∙ is)
+set_turn xs f q x h is old = rw is (fill_by_more f xs q 0 h old)
 
 -- what `multiply` leaves
 pub product_at : (p d r : List ℕ) → length p ≡ 16 → length d ≡ 16 → r ≡ onto (λ (x y : ℕ). x ⊗ y) p d
@@ -80,8 +75,10 @@ module _ (v : ℕ) (xs ys : List ℕ) (fits : v * 16 + 16 ≤ length xs) where
       (λ q h. ap (λ (l : List ℕ). get_or l q 0) is ∙ onto_at f row p q (omega (arith, row-length)) (omega arith)
       ∙ ap (λ (x : ℕ). f x (get_or p q 0)) (row_at q h))
 
-pub row_same : {f g : ℕ → ℕ} {v : ℕ} {xs zs : List ℕ} → ((q : ℕ) → q < 16 → f q ≡ g q) → RowSet f v xs zs → RowSet g v xs zs
-row_same e put = record { long = put.long; own = λ q h. put.own q h ∙ e q h; other = put.other }
+  pub row_filled : (x : ℕ) → ys ≡ replicate (length row) x → RowSet (λ q. x) v xs back
+  row_filled x is =
+      row_back (λ q. x) (ap length is ∙ length-replicate (length row) x ∙ row-length)
+      (λ q h. ap (λ (l : List ℕ). get_or l q 0) is ∙ get_or-replicate (length row) q x 0 (omega (arith, row-length)))
 
 -- ---- the rows of a block
 

@@ -1,3 +1,4 @@
+pub mod Made
 pub mod Powers
 pub mod Away
 pub mod Lanes

@@ -6,7 +6,7 @@ ghost use Rattle.lagrange.specs.Powers.{image_of};
 use field::Gf;
 use steps::mask;
 
-// What a map makes of 1, 2, 4 and so on.
+// What a map makes of 1, 2, 4 and so on; eight fields and no array, since `image_of` names each.
 #[derive(Clone, Copy)]
 struct Images {
     t0: u8,
@@ -28,66 +28,51 @@ fn image(t: Images, x: u8) -> u8
 }
 
 // x^2. The square of a sum is the sum of the squares.
-fn square(x: u8) -> u8
-    ensures { result ≡ power x 2 }
-{
-    let t = Images {
-        t0: 0x01,
-        t1: 0x04,
-        t2: 0x10,
-        t3: 0x40,
-        t4: 0x1d,
-        t5: 0x74,
-        t6: 0xcd,
-        t7: 0x13,
-    };
-    image(t, x)
-}
+const SQUARES: Images = Images {
+    t0: 0x01,
+    t1: 0x04,
+    t2: 0x10,
+    t3: 0x40,
+    t4: 0x1d,
+    t5: 0x74,
+    t6: 0xcd,
+    t7: 0x13,
+};
 
 // x^4.
-fn fourth(x: u8) -> u8
-    ensures { result ≡ power x 4 }
-{
-    let t = Images {
-        t0: 0x01,
-        t1: 0x10,
-        t2: 0x1d,
-        t3: 0xcd,
-        t4: 0x4c,
-        t5: 0xb4,
-        t6: 0x8f,
-        t7: 0x18,
-    };
-    image(t, x)
-}
+const FOURTHS: Images = Images {
+    t0: 0x01,
+    t1: 0x10,
+    t2: 0x1d,
+    t3: 0xcd,
+    t4: 0x4c,
+    t5: 0xb4,
+    t6: 0x8f,
+    t7: 0x18,
+};
 
 // x^16.
-fn sixteenth(x: u8) -> u8
-    ensures { result ≡ power x 16 }
-{
-    let t = Images {
-        t0: 0x01,
-        t1: 0x4c,
-        t2: 0x9d,
-        t3: 0x46,
-        t4: 0x5f,
-        t5: 0xfd,
-        t6: 0xd9,
-        t7: 0x81,
-    };
-    image(t, x)
-}
+const SIXTEENTHS: Images = Images {
+    t0: 0x01,
+    t1: 0x4c,
+    t2: 0x9d,
+    t3: 0x46,
+    t4: 0x5f,
+    t5: 0xfd,
+    t6: 0xd9,
+    t7: 0x81,
+};
 
 // The inverse, which is x^254; of zero it is zero.
 pub(crate) fn inverse(x: u8) -> u8
     ensures { result ≡ inverse_of x }
 {
-    let x2 = Gf(square(x));
+    let x2 = Gf(image(SQUARES, x));
     let x3 = x2.product(Gf(x));
-    let x12 = Gf(fourth(x3.0));
+    let x12 = Gf(image(FOURTHS, x3.0));
     let x14 = x12.product(x2);
     let x15 = x12.product(x3);
-    let x240 = Gf(sixteenth(x15.0));
+    let x240 = Gf(image(SIXTEENTHS, x15.0));
     let x254 = x240.product(x14);
     x254.0
 }

@@ -1,6 +1,7 @@
 // Loops over byte slices, a field element at each place. Of two slices each loop runs to the end of the shorter, and the
 // rest stays. The forms are those that the compiler turns into vector code. Steps of rows stand in `steps`, products in `products`
 // and `weights`, and a loop that serves one crate alone stands there.
+// A loop for each step: one for all would take a closure, whose `requires` no public function may have, or a trait, longer than the loops.
 #![tactic(auto)]
 
 ghost use Rattle.std.specs.Prelude.{◌≡◌, ◌⊎◌, ℕ, ◌≤◌};
@@ -11,23 +12,18 @@ ghost use Rattle.lanes.specs.Lanes.{onto, all_zero};
 pub fn add(a: &mut [u8], d: &[u8])
     ensures { a.new ≡ onto (λ (x y : ℕ). x ⊕ y) a.old d.now }
 {
-    let n = shorter(a.len(), d.len());
-    let mut q = 0;
-    while q < n {
-        a[q] = a[q] ^ d[q];
-        q += 1;
+    for q in 0..shorter(a.len(), d.len()) {
+        a[q] ^= d[q];
     }
 }
 
 // At each place the second.
+// A loop: `copy_from_slice` would call memmove, and C is promised that nothing but memcpy and memset is called.
 pub fn copy(a: &mut [u8], d: &[u8])
     ensures { a.new ≡ onto (λ (x y : ℕ). y) a.old d.now }
 {
-    let n = shorter(a.len(), d.len());
-    let mut q = 0;
-    while q < n {
+    for q in 0..shorter(a.len(), d.len()) {
         a[q] = d[q];
-        q += 1;
     }
 }
 
@@ -35,18 +31,12 @@ pub fn copy(a: &mut [u8], d: &[u8])
 pub fn all_zero(a: &[u8]) -> bool
     ensures { result ≡ all_zero a.now }
 {
-    let mut z = 0u8;
-    let mut q = 0;
-    while q < a.len() {
-        z = z | a[q];
-        q += 1;
-    }
-    z == 0
+    a.iter().fold(0, |z, x| z | x) == 0
 }
 
 // The lesser of two lengths.
 pub fn shorter(m: usize, n: usize) -> usize
     ensures { (result ≤ m) × ((result ≤ n) × ((m ≤ result) ⊎ (n ≤ result))) }
 {
-    if m < n { m } else { n }
+    m.min(n)
 }

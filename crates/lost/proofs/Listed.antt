@@ -1,18 +1,16 @@
 -- The lent list: its positions by pairs of bytes, and what is known of them where it is not refused.
-use Prim.Native.Nat.{ℕ, zero, suc, ◌+◌, ◌*◌, ◌/◌, ◌%◌, ◌-◌, ◌≤◌, ◌<◌}
-use mathlib.Core.Path.{◌≡◌, refl, sym, ap, ap₂, ◌∙◌, subst}
+use Prim.Native.Nat.{ℕ, zero, suc, ◌+◌, ◌*◌, ◌/◌, ◌%◌, ◌≤◌, ◌<◌, min}
+use mathlib.Core.Path.{◌≡◌, refl, sym, ap, ◌∙◌}
 use mathlib.Core.Bool.{Bool, true, false, cond}
-use mathlib.Core.Logic.{◌⊎◌, inl, inr}
-use mathlib.Core.List.{List, [], ◌∷◌}
+use mathlib.Core.Logic.{◌⊎◌, inl, inr, ⊎_elim}
+use mathlib.Core.List.{List, [], ◌∷◌, ◌++◌}
 use native.Mathlib.Omega.{arith}
 use native.Mathlib.Numerals.{add-one}
-use lib.ListN.{length, get_or, set, drop, length-drop, get_or-eq_default}
-use lib.Seq.{get_or-set_same, get_or-set_other, ext_get_or}
+use lib.ListN.{length, get_or, get_or-eq_default}
+use lib.Seq.{ext_get_or}
 use borrow.Author.Tests.{le-leb, lt-leb, leb-true, eq-eqb, ne_eqb, eqb-true}
-use borrow.Author.Count.{below_more}
 use Rattle.field.proofs.Cases.{below_or_from}
 use Rattle.field.proofs.Bytes.{tabulate-length, tabulate_at}
-use Rattle.field.specs.Bytes.{tabulate}
 use Rattle.stripe.specs.Stripe.{Ascending, ascending}
 use Rattle.stripe.proofs.Ascending.{ascending-nil, ascending_low, ascending_high, ascending_next, ascending_says}
 use Rattle.lost.specs.declared.Lost.{Lost}
@@ -54,43 +52,34 @@ positions_short [] h = refl
 positions_short (a ∷ []) h = refl
 positions_short (a ∷ b ∷ ls) h = absurd (omega arith)
 
-first_pair : (ls : List ℕ) (i : ℕ) → suc i < length ls
-    → positions (drop i ls) ≡ (get_or ls i 0 + get_or ls (suc i) 0 * 256) ∷ positions (drop (suc (suc i)) ls)
+first_pair : (ls p rest : List ℕ) (e : ℕ) → ls ≡ p ++ rest → length p ≡ 2 → e ≡ get_or p 0 0 + get_or p 1 0 * 256
+    → positions ls ≡ e ∷ positions rest
 unfolding positions
-first_pair [] i h = absurd (omega arith)
-first_pair (a ∷ []) i h = absurd (omega arith)
-first_pair (a ∷ b ∷ ls) zero h = refl
-first_pair (a ∷ b ∷ ls) (suc i) h = first_pair (b ∷ ls) i (omega arith)
-
-two_more : (i : ℕ) → suc (suc i) ≡ i + 2
-two_more i = omega arith
-
-pub next_pair : (ls : List ℕ) (i : ℕ) → i + 1 < length ls
-    → positions (drop i ls) ≡ (get_or ls i 0 + get_or ls (i + 1) 0 * 256) ∷ positions (drop (i + 2) ls)
-next_pair ls i h =
-    first_pair ls i (omega arith)
-    ∙ ap₂ (λ (m n : ℕ). (get_or ls i 0 + get_or ls m 0 * 256) ∷ positions (drop n ls)) (sym (add-one i)) (two_more i)
+first_pair ls p rest e is long at = ap positions is ∙ go p long ∙ ap (λ (x : ℕ). x ∷ positions rest) (sym at)
+  where
+    go : (p : List ℕ) → length p ≡ 2 → positions (p ++ rest) ≡ (get_or p 0 0 + get_or p 1 0 * 256) ∷ positions rest
+    go [] h = absurd (omega arith)
+    go (a ∷ []) h = absurd (omega arith)
+    go (a ∷ b ∷ []) h = refl
+    go (a ∷ b ∷ d ∷ p) h = absurd (omega arith)
 
 -- one turn of the walk over the list: the test of a pair decides, or the rest does
-pub low_pair : (ls : List ℕ) (a n i e : ℕ) → i + 1 < length ls → e ≡ get_or ls i 0 + get_or ls (i + 1) 0 * 256 → e < a
-    → ascending a n (positions (drop i ls)) ≡ false
-low_pair ls a n i e h q l = ap (ascending a n) (next_pair ls i h) ∙ ascending_low a n _ _ (subst (λ (x : ℕ). x < a) q l)
+pub pair_refused : (ls p rest : List ℕ) (a n e : ℕ) → ls ≡ p ++ rest → length p ≡ 2 → e ≡ get_or p 0 0 + get_or p 1 0 * 256
+    → (e < a) ⊎ ((a ≤ e) × (n ≤ e)) → ascending a n (positions ls) ≡ false
+pair_refused ls p rest a n e is long at side = ap (ascending a n) (first_pair ls p rest e is long at) ∙ go side
+  where
+    go : (e < a) ⊎ ((a ≤ e) × (n ≤ e)) → ascending a n (e ∷ positions rest) ≡ false
+    go (inl l) = ascending_low a n e _ l
+    go (inr h) = ascending_high a n e _ h.0 h.1
 
-pub high_pair : (ls : List ℕ) (a n i e : ℕ) → i + 1 < length ls → e ≡ get_or ls i 0 + get_or ls (i + 1) 0 * 256 → a ≤ e → n ≤ e
-    → ascending a n (positions (drop i ls)) ≡ false
-high_pair ls a n i e h q l m =
-    ap (ascending a n) (next_pair ls i h) ∙ ascending_high a n _ _ (subst (λ (x : ℕ). a ≤ x) q l) (subst (λ (x : ℕ). n ≤ x) q m)
+pub pair_taken : (ls p rest : List ℕ) (a n e : ℕ) → ls ≡ p ++ rest → length p ≡ 2 → e ≡ get_or p 0 0 + get_or p 1 0 * 256 → a ≤ e → e < n
+    → ascending a n (positions ls) ≡ ascending (e + 1) n (positions rest)
+pair_taken ls p rest a n e is long at l m =
+    ap (ascending a n) (first_pair ls p rest e is long at) ∙ ascending_next a n e _ l m
+    ∙ ap (λ (x : ℕ). ascending x n (positions rest)) (sym (add-one e))
 
-pub good_pair : (ls : List ℕ) (a n i e : ℕ) → i + 1 < length ls → e ≡ get_or ls i 0 + get_or ls (i + 1) 0 * 256 → a ≤ e → e < n
-    → ascending a n (positions (drop i ls)) ≡ ascending (e + 1) n (positions (drop (i + 2) ls))
-good_pair ls a n i e h q l m =
-    ap (ascending a n) (next_pair ls i h)
-    ∙ ascending_next a n _ _ (subst (λ (x : ℕ). a ≤ x) q l) (subst (λ (x : ℕ). x < n) q m)
-    ∙ ap (λ (x : ℕ). ascending x n (positions (drop (i + 2) ls))) (ap suc (sym q) ∙ sym (add-one e))
-
-pub no_pair : (ls : List ℕ) (a n i : ℕ) → length ls - i ≤ 1 → ascending a n (positions (drop i ls)) ≡ true
-no_pair ls a n i h =
-    ap (ascending a n) (positions_short (drop i ls) (subst (λ (x : ℕ). x ≤ 1) (sym (length-drop i ls)) h)) ∙ ascending-nil a n
+pub no_pair : (ls : List ℕ) (a n : ℕ) → length ls < 2 → ascending a n (positions ls) ≡ true
+no_pair ls a n h = ap (ascending a n) (positions_short ls (omega arith)) ∙ ascending-nil a n
 
 -- ---- the tests of a list
 
@@ -115,38 +104,19 @@ module _ (n r : ℕ) (ls : List ℕ) where
 
 -- ---- the first ones
 
-stored_one : (xs : List ℕ) (f : ℕ → ℕ) (i v : ℕ) → i < length xs → ((j : ℕ) → j < i → get_or xs j 0 ≡ f j) → v ≡ f i
-    → (j : ℕ) → j < i + 1 → get_or (set xs i v) j 0 ≡ f j
-stored_one xs f i v h below e =
-    below_more _ _ (λ j w. get_or-set_other xs i j v 0 (λ q. omega (arith, q)) ∙ below j w) (get_or-set_same xs i v 0 h ∙ e)
-
-pub stored : (ls xs : List ℕ) (i v : ℕ) → i < length xs → 2 * i + 1 < length ls → ((j : ℕ) → j < i → get_or xs j 0 ≡ get_or (positions ls) j 0)
-    → v ≡ get_or ls (2 * i) 0 + get_or ls (2 * i + 1) 0 * 256 → (j : ℕ) → j < i + 1 → get_or (set xs i v) j 0 ≡ get_or (positions ls) j 0
-stored ls xs i v h m below e = stored_one xs (λ j. get_or (positions ls) j 0) i v h below (e ∙ sym (positions_at_lem ls i m))
-
 pub lost_at : (ls : List ℕ) (j : ℕ) → j < capacity → get_or (lost_of ls).at j 0 ≡ get_or (positions ls) j 0
 lost_at ls = tabulate_at capacity (λ v. get_or (positions ls) v 0)
 
-pub made : (ls xs : List ℕ) → length xs ≡ capacity → ((j : ℕ) → j < capacity → get_or xs j 0 ≡ get_or (positions ls) j 0)
+-- the first i positions, and zeros after them, where there are no more or there is no more room
+pub made : (ls xs : List ℕ) (i : ℕ) → min (length ls / 2) capacity ≤ i → length xs ≡ capacity
+    → ((j : ℕ) → j < i → get_or xs j 0 ≡ get_or (positions ls) j 0) → ((j : ℕ) → i ≤ j → get_or xs j 0 ≡ 0)
     → ◌≡◌ {A = Lost} (record { at = xs; count = length ls / 2 }) (lost_of ls)
-made ls xs h all =
+made ls xs i all long below above =
     ap (λ (at : List ℕ). record { at = at; count = length ls / 2 })
-    (ext_get_or 0 xs (lost_of ls).at (h ∙ sym (tabulate-length capacity _)) (λ j l. all j (omega arith) ∙ sym (lost_at ls j (omega arith))))
-
--- where there are no more pairs, zero stands there in both
-pub early : (ls xs : List ℕ) (i : ℕ) → length ls / 2 ≤ i → ((j : ℕ) → j < i → get_or xs j 0 ≡ get_or (positions ls) j 0) → ((j : ℕ) → i ≤ j → get_or xs j 0 ≡ 0)
-    → (j : ℕ) → j < capacity → get_or xs j 0 ≡ get_or (positions ls) j 0
-early ls xs i h below above j w = go (below_or_from j i)
+    (ext_get_or 0 xs (lost_of ls).at (long ∙ sym (tabulate-length capacity _)) (λ j h. at j (omega arith) ∙ sym (lost_at ls j (omega arith))))
   where
-    go : (j < i) ⊎ (i ≤ j) → get_or xs j 0 ≡ get_or (positions ls) j 0
-    go (inl l) = below j l
-    go (inr g) = above j g ∙ sym (positions_past ls j (omega arith))
-
-pub zeros : (n j : ℕ) → get_or (tabulate n (λ _. 0)) j 0 ≡ 0
-unfolding tabulate
-zeros zero j = refl
-zeros (suc n) zero = refl
-zeros (suc n) (suc j) = zeros n j
+    at : (j : ℕ) → j < capacity → get_or xs j 0 ≡ get_or (positions ls) j 0
+    at j h = ⊎_elim (below j) (λ g. above j g ∙ sym (positions_past ls j (omega arith))) (below_or_from j i)
 
 -- ---- a list that passes
 

@@ -6,6 +6,7 @@ use mathlib.Core.Logic.{◌⊎◌, inl, inr, ⊎_elim}
 use Prim.Native.Nat.{ℕ, ◌+◌, ◌-◌, ◌*◌, ◌/◌, ◌%◌, ◌<◌, ◌≤◌}
 use native.Mathlib.Nat.{mul-le-mul_right, suc-mul, not-suc-le-zero}
 use native.Mathlib.Omega.{arith}
+use Rattle.std.specs.Prelude.{min}
 use lib.Dec.{eqb}
 use lib.ListN.{length, get_or}
 use borrow.Author.Tests.{eq-eqb, ne_eqb}
@@ -19,22 +20,22 @@ use Rattle.matrix.proofs.Groups.{groups_sum, group_most, index_small}
 
 -- ---- a block of one row
 
-pub part_fresh : (fresh : Bool) (xs b ys : List ℕ) (at n w : ℕ) → fresh ≡ true → n ≡ w → Part (λ (x y : ℕ). y) xs at n b ys
+pub part_fresh : (fresh : Bool) (xs b ys : List ℕ) (at w : ℕ) → fresh ≡ true → Part (λ (x y : ℕ). y) xs at w b ys
     → Part (λ (x y : ℕ). cond fresh 0 x ⊕ y) xs at w b ys
-part_fresh fresh xs b ys at n w e same h =
+part_fresh fresh xs b ys at w e h =
     record {
       long = h.long;
-      inside = λ q l. h.inside q (omega arith) ∙ sym (ap (λ (t : Bool). cond t 0 (get_or xs (at + q) 0) ⊕ get_or b q 0) e ∙ zero-add (get_or b q 0));
-      outside = λ i l. h.outside i (subst (λ (x : ℕ). (i < at) ⊎ (at + x ≤ i)) (sym same) l);
+      inside = λ q l. h.inside q l ∙ sym (ap (λ (t : Bool). cond t 0 (get_or xs (at + q) 0) ⊕ get_or b q 0) e ∙ zero-add (get_or b q 0));
+      outside = h.outside;
     }
 
-pub part_later : (fresh : Bool) (xs b ys : List ℕ) (at n w : ℕ) → fresh ≡ false → n ≡ w → Part (λ (x y : ℕ). x ⊕ y) xs at n b ys
+pub part_later : (fresh : Bool) (xs b ys : List ℕ) (at w : ℕ) → fresh ≡ false → Part (λ (x y : ℕ). x ⊕ y) xs at w b ys
     → Part (λ (x y : ℕ). cond fresh 0 x ⊕ y) xs at w b ys
-part_later fresh xs b ys at n w e same h =
+part_later fresh xs b ys at w e h =
     record {
       long = h.long;
-      inside = λ q l. h.inside q (omega arith) ∙ sym (ap (λ (t : Bool). cond t 0 (get_or xs (at + q) 0) ⊕ get_or b q 0) e);
-      outside = λ i l. h.outside i (subst (λ (x : ℕ). (i < at) ⊎ (at + x ≤ i)) (sym same) l);
+      inside = λ q l. h.inside q l ∙ sym (ap (λ (t : Bool). cond t 0 (get_or xs (at + q) 0) ⊕ get_or b q 0) e);
+      outside = h.outside;
     }
 
 -- ---- the rows of a block
@@ -92,6 +93,11 @@ pub rowed_done : (t es : List ℕ) (groups : ℕ) (fresh : Bool) (count at w s r
     → Rowed t es groups fresh count at w rows ps qs
 rowed_done t es groups fresh count at w s rows ps qs e h = subst (λ (x : ℕ). Rowed t es groups fresh count at w x ps qs) e h
 
+-- of as many groups
+pub rowed_same : (t es : List ℕ) (g k : ℕ) (fresh : Bool) (count at w rows : ℕ) (ps qs : List ℕ) → g ≡ k → Rowed t es g fresh count at w rows ps qs
+    → Rowed t es k fresh count at w rows ps qs
+rowed_same t es g k fresh count at w rows ps qs e h = subst (λ (x : ℕ). Rowed t es x fresh count at w rows ps qs) e h
+
 -- ---- what a row is
 
 -- the numbers are those of sums
@@ -135,12 +141,12 @@ module _ (ms cs xs : List ℕ) (from stride count rows i n : ℕ) where
       → Held ms cs xs from stride count rows (i + n) ps
   edge_done e ps a h = record { at = λ s p hs hp z. h.below s p hs (omega arith) hp }
 
-  pub edge_turn : (es t ps qs : List ℕ) (at w : ℕ) (fresh : Bool) → Bytes xs → AllNumbered ms (length cs) i n rows es
-      → fresh ≡ eqb i 0 → at + w ≤ count
+  pub edge_turn : (es t ps qs : List ℕ) (at w e : ℕ) (fresh : Bool) → Bytes xs → AllNumbered ms (length cs) i n rows es
+      → fresh ≡ eqb i 0 → at + w ≡ min e count
       → GroupsIn xs cs (from + at) stride w i n ((n + 3) / 4) t → Rowed t es ((n + 3) / 4) fresh count at w rows ps qs
-      → Edge ms cs xs from stride count rows (i + n) i at ps → Edge ms cs xs from stride count rows (i + n) i (at + w) qs
-  edge_turn es t ps qs at w fresh bytes numbered is fits groups made h =
-      record { below = below; above = λ s p hs a k z. made.off s p k (inr (inr a)) ∙ h.above s p hs (omega arith) k z }
+      → Edge ms cs xs from stride count rows (i + n) i at ps → Edge ms cs xs from stride count rows (i + n) i e qs
+  edge_turn es t ps qs at w e fresh bytes numbered is ends groups made h =
+      record { below = below; above = λ s p hs a k z. made.off s p k (inr (inr (omega arith))) ∙ h.above s p hs (omega arith) k z }
     where
       term : ℕ → ℕ → ℕ → ℕ
       term s p j = get_or ms (s * length cs + j) 0 ⊗ get_or xs (from + get_or cs j 0 * stride + p) 0
@@ -171,7 +177,7 @@ module _ (ms cs xs : List ℕ) (from stride count rows i n : ℕ) where
           ap (λ (x : ℕ). get_or qs x 0) place ∙ made.on s q hs k ∙ ap₂ ◌⊕◌ (before s q hs k) (value s q hs k)
           ∙ sym (sum_append i n (term s (at + q)))
 
-      below : (s p : ℕ) → s < rows → p < at + w → p < count → get_or qs (s * count + p) 0 ≡ up_to ms cs xs from stride (i + n) s p
+      below : (s p : ℕ) → s < rows → p < e → p < count → get_or qs (s * count + p) 0 ≡ up_to ms cs xs from stride (i + n) s p
       below s p hs a k = ⊎_elim old new (below_or_from p at)
         where
           old : p < at → get_or qs (s * count + p) 0 ≡ up_to ms cs xs from stride (i + n) s p
@@ -190,11 +196,7 @@ module _ (ms cs xs : List ℕ) (from stride count rows : ℕ) (ps : List ℕ) wh
   pub held_done : (i n : ℕ) → i ≡ n → Held ms cs xs from stride count rows i ps → Held ms cs xs from stride count rows n ps
   held_done i n e h = subst (λ (x : ℕ). Held ms cs xs from stride count rows x ps) e h
 
--- ---- what is taken lies in the columns, and is not nothing
+-- ---- what is taken lies in the columns
 
 pub part_inside : (xs cs : List ℕ) (from stride count at w : ℕ) → at + w ≤ count → Inside xs cs from stride count → Inside xs cs (from + at) stride w
 part_inside xs cs from stride count at w fits inside i less = omega (arith, inside i less)
-
-pub least_some : (b a w : ℕ) → 0 < b → 0 < a → (b ≤ w) ⊎ (a ≤ w) → 0 < w
-least_some b a w hb ha (inl h) = omega arith
-least_some b a w hb ha (inr h) = omega arith

@@ -145,15 +145,15 @@ module _ (ws cs xs : List ℕ) (from stride count : ℕ) (few : length cs ≤ 25
       (λ d hd. (lists.at d hd).sum (λ c. get_or xs (from + at + c * stride + q) 0))
       ∙ sum_same (length cs) _ _ (λ i l. ap₂ (λ (a b : ℕ). get_or ws a 0 ⊗ get_or xs b 0) (omega arith) (omega arith))
 
-  pub row_more : (at w : ℕ) (y ps qs : List ℕ) → Bytes xs → w ≤ 64
+  pub row_more : (at w e : ℕ) (y ps qs : List ℕ) → Bytes xs → w ≤ 64 → at + w ≡ e
       → ((q : ℕ) → q < w → get_or y q 0 ≡ fall 8 0 (λ b. listed xs (from + at) stride ls (b * 256) (get_or ns b 0) q))
-      → Part (λ (a b : ℕ). b) ps at w y qs → RowBelow ws cs xs from stride at ps → RowBelow ws cs xs from stride (at + w) qs
-  row_more at w y ps qs bytes most value put h = record { at = λ p less. ⊎_elim (old p) (new p less) (below_or_from p at) }
+      → Part (λ (a b : ℕ). b) ps at w y qs → RowBelow ws cs xs from stride at ps → RowBelow ws cs xs from stride e qs
+  row_more at w e y ps qs bytes most ends value put h = record { at = λ p less. ⊎_elim (old p) (new p less) (below_or_from p at) }
     where
       old : (p : ℕ) → p < at → get_or qs p 0 ≡ up_to ws cs xs from stride (length cs) 0 p
       old p a = put.outside p (inl a) ∙ h.at p a
 
-      new : (p : ℕ) → p < at + w → at ≤ p → get_or qs p 0 ≡ up_to ws cs xs from stride (length cs) 0 p
+      new : (p : ℕ) → p < e → at ≤ p → get_or qs p 0 ≡ up_to ws cs xs from stride (length cs) 0 p
       new p less a =
           let place : at + (p - at) ≡ p = omega arith in
           let inside : p - at < w = omega arith in

@@ -2,10 +2,11 @@
 use mathlib.Core.Path.{◌≡◌, refl, sym, ap, ap₂, ◌∙◌, subst}
 use mathlib.Core.Bool.{Bool, true, false, cond, ◌&&◌, and-eq-true_iff}
 use mathlib.Core.List.{List, [], ◌∷◌}
-use mathlib.Core.Logic.{◌⊎◌, ⊎_elim}
+use mathlib.Core.Logic.{◌⊎◌, inl, inr, ⊎_elim}
 use Prim.Native.Nat.{ℕ, zero, suc, ◌+◌, ◌-◌, ◌*◌, ◌/◌, ◌<◌, ◌≤◌, zero-le, suc-le-suc}
 use native.Mathlib.Nat.{mul-le-mul_right, mul_comm, zero-mul, le-div_iff_mul-le, le_of_suc-le-suc, not-suc-le-zero}
 use native.Mathlib.Omega.{arith}
+use Rattle.std.specs.Prelude.{fold, max}
 use lib.Dec.{leb}
 use lib.ListN.{length, get_or, length-map}
 use borrow.Author.Tests.{leb-true, eqb-true, le-leb, lt-leb, eq-eqb}
@@ -129,33 +130,34 @@ some_fits c b from stride count h k some = same_test _ _ (λ e. le-leb end b (en
 
 -- ---- the greatest number
 
-pub greatest_one : (cs : List ℕ) → Greatest cs 1 (get_or cs 0 0)
-greatest_one cs = record { most = most; there = record { place = 0; below = suc-le-suc zero-le; is = refl } }
+-- the greatest of c and of the numbers xs
+abbrev most_of : ℕ → List ℕ → ℕ
+most_of c xs = fold max c xs
+
+most_first : (xs : List ℕ) (c : ℕ) → c ≤ most_of c xs
+most_first [] c = omega arith
+most_first (x ∷ xs) c = omega (arith, most_first xs (max c x))
+
+most_each : (xs : List ℕ) (c i : ℕ) → i < length xs → get_or xs i 0 ≤ most_of c xs
+most_each [] c i h = absurd (not-suc-le-zero h)
+most_each (x ∷ xs) c zero h = omega (arith, most_first xs (max c x))
+most_each (x ∷ xs) c (suc i) h = most_each xs (max c x) i (le_of_suc-le-suc h)
+
+most_there : (xs : List ℕ) (c : ℕ) → (most_of c xs ≡ c) ⊎ Among xs (length xs) (most_of c xs)
+most_there [] c = inl refl
+most_there (x ∷ xs) c = go (most_there xs (max c x)) (below_or_from c x)
   where
-    most : (i : ℕ) → i < 1 → get_or cs i 0 ≤ get_or cs 0 0
-    most zero h = omega arith
-    most (suc i) h = omega arith
+    go : (most_of c (x ∷ xs) ≡ max c x) ⊎ Among xs (length xs) (most_of c (x ∷ xs)) → (c < x) ⊎ (x ≤ c)
+        → (most_of c (x ∷ xs) ≡ c) ⊎ Among (x ∷ xs) (suc (length xs)) (most_of c (x ∷ xs))
+    go (inl e) (inl h) = inr (record { place = 0; below = suc-le-suc zero-le; is = omega arith })
+    go (inl e) (inr h) = inl (omega arith)
+    go (inr a) h = inr (record { place = suc a.place; below = suc-le-suc a.below; is = a.is })
 
-pub greatest_turn : (cs : List ℕ) (n c d : ℕ) → Greatest cs n c → c ≤ d → get_or cs n 0 ≤ d → (d ≡ c) ⊎ (d ≡ get_or cs n 0) → Greatest cs (n + 1) d
-greatest_turn cs n c d h old new one = record { most = most; there = ⊎_elim before here one }
+pub greatest_folded : (cs : List ℕ) → 1 ≤ length cs → Greatest cs (length cs) (fold max 0 cs)
+greatest_folded cs some = record { most = λ i h. most_each cs 0 i h; there = ⊎_elim none (λ a. a) (most_there cs 0) }
   where
-    most : (i : ℕ) → i < n + 1 → get_or cs i 0 ≤ d
-    most i l = ⊎_elim below last (below_or_from i n)
-      where
-        below : i < n → get_or cs i 0 ≤ d
-        below a = omega (arith, h.most i a)
-
-        last : n ≤ i → get_or cs i 0 ≤ d
-        last a = let same : i ≡ n = omega arith in omega (arith, ap (λ (k : ℕ). get_or cs k 0) same)
-
-    before : d ≡ c → Among cs (n + 1) d
-    before e = let was = h.there in record { place = was.place; below = omega (arith, was.below); is = was.is ∙ sym e }
-
-    here : d ≡ get_or cs n 0 → Among cs (n + 1) d
-    here e = record { place = n; below = omega arith; is = sym e }
-
-pub greatest_done : (cs : List ℕ) (n m c : ℕ) → n ≡ m → Greatest cs n c → Greatest cs m c
-greatest_done cs n m c e h = subst (λ (k : ℕ). Greatest cs k c) e h
+    none : most_of 0 cs ≡ 0 → Among cs (length cs) (most_of 0 cs)
+    none e = record { place = 0; below = some; is = omega (arith, most_each cs 0 0 some) }
 
 -- all columns fit where the one with the greatest number does
 pub greatest_fits : (cs : List ℕ) (c b from stride count : ℕ) → Greatest cs (length cs) c

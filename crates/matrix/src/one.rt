@@ -2,21 +2,19 @@
 // Horner's rule over the bits with these columns added from where they lie.
 ghost use Rattle.std.specs.Prelude.{◌≡◌, map, ℕ, ◌+◌, ◌*◌, ◌/◌, ◌%◌, ◌<◌, ◌≤◌, length, get_or};
 ghost use Rattle.field.specs.Field.{◌⊕◌, ◌⊗◌};
-ghost use Rattle.matrix.specs.Sums.{fall, Inside, Part, Held};
+ghost use Rattle.matrix.specs.Sums.{fall, Inside, Held};
 ghost use Rattle.matrix.specs.Listing.{Listed, Lists, ListedInside, AllInside, listed};
 
-use crate::{block, put, wide};
-use lanes::{add, copy, shorter};
+use crate::{block, put};
+use lanes::{add, copy};
 use steps::double_add;
 
 // Each byte halved.
 fn halve(p: &mut [u8])
     ensures { p.new ≡ map (λ (x : ℕ). x / 2) p.old }
 {
-    let mut q = 0;
-    while q < p.len() {
-        p[q] = p[q] / 2;
-        q += 1;
+    for x in p.iter_mut() {
+        *x /= 2;
     }
 }
 
@@ -28,12 +26,9 @@ fn odd(ls: &mut [u8], at: usize, p: &[u8], cs: &[u8]) -> usize
     ensures by_index { (i : ℕ) → i < at → get_or ls.new i 0 ≡ get_or ls.old i 0 }
 {
     let mut n = 0;
-    let mut i = 0;
-    while i < cs.len() {
-        let o = at + n;
-        ls[o] = cs[i];
-        n += wide(p[i] % 2);
-        i += 1;
+    for (i, c) in cs.iter().enumerate() {
+        ls[at + n] = *c;
+        n += usize::from(p[i] % 2);
     }
     n
 }
@@ -46,12 +41,9 @@ fn lists(ls: &mut [u8], ns: &mut [u8], weights: &[u8], cs: &[u8])
 {
     let mut p = [0u8; 256];
     copy(&mut p, weights);
-    let mut b = 0;
-    while b < 8 {
-        let n = odd(ls, b * 256, &p, cs);
-        ns[b] = n as u8;
+    for b in 0..8 {
+        ns[b] = odd(ls, b * 256, &p, cs) as u8;
         halve(&mut p);
-        b += 1;
     }
 }
 
@@ -72,11 +64,9 @@ fn add_listed(
 {
     let zero = [0u8; 64];
     double_add(y, &zero);
-    let mut j = 0;
-    while j < n {
-        let d = block(columns, from + wide(ls[at + j]) * stride, w);
+    for j in 0..n {
+        let d = block(columns, from + usize::from(ls[at + j]) * stride, w);
         add(y, &d);
-        j += 1;
     }
 }
 
@@ -95,24 +85,19 @@ fn listed_row(
         ≡ fall 8 0 (λ b. listed columns.now from stride ls.now (b * 256) (get_or ns.now b 0) q) }
 {
     let mut y = [0u8; 64];
-    let mut b = 8;
-    while 0 < b {
-        b = b - 1;
-        add_listed(&mut y, columns, from, stride, ls, b * 256, wide(ns[b]), w);
+    for b in (0..8).rev() {
+        add_listed(
+            &mut y,
+            columns,
+            from,
+            stride,
+            ls,
+            b * 256,
+            usize::from(ns[b]),
+            w,
+        );
     }
     y
-}
-
-// The first w bytes of b, from `at` on; of a whole block by a literal length.
-fn put_block(out: &mut [u8], at: usize, w: usize, b: &[u8; 64])
-    requires { (at + w ≤ length out.old) × (w ≤ 64) }
-    ensures { Part (λ (x y : ℕ). y) out.old at w b.now out.new }
-{
-    if w < 64 {
-        put(out, at, w, b);
-        return;
-    }
-    put(out, at, 64, b);
 }
 
 // The row of these weights at every place.
@@ -133,11 +118,12 @@ pub(crate) fn one_row(
     let mut ls = [0u8; 2048];
     let mut ns = [0u8; 8];
     lists(&mut ls, &mut ns, weights, cs);
+    // a `while`: with `for` over the blocks short columns take longer, as in `slab`
     let mut at = 0;
     while at < count {
-        let w = shorter(64, count - at);
+        let w = (count - at).min(64);
         let y = listed_row(columns, from + at, stride, &ls, &ns, w);
-        put_block(out, at, w, &y);
+        put(out, at, w, &y);
         at += w;
     }
 }

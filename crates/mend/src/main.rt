@@ -1,5 +1,6 @@
 // The mending program: one record on standard input, of which one byte more than is allowed is read, and its text on standard output.
-// Where reading or writing fails a line on standard error says so.
+// Where reading or writing fails a line on standard error says so. `mends` has the same small functions: shared they would be public, and
+// no contract can say of what std reads and writes that there is one outcome.
 #![tactic(auto)]
 
 ghost use Rattle.std.specs.Prelude.{◌≡◌, ◌≤◌, length};
@@ -28,6 +29,7 @@ fn fail(rt: &impl Eprint, what: &str, error: &io::Error) {
 }
 
 // Reads until the buffer is full, the input ends or a read fails, and answers how many bytes it put at the front.
+// No `Result`: where a read fails, one more is tried afterwards, and that may not change (docs/PORT.md, 'Programs').
 fn read_full(input: &mut impl Read, buf: &mut [u8]) -> usize
     ensures { result ≤ length buf.new }
 {
@@ -42,16 +44,10 @@ fn read_full(input: &mut impl Read, buf: &mut [u8]) -> usize
     done
 }
 
-// Whether the input had ended where reading stopped, or goes on; else reading failed, which is said.
-fn could_read(rt: &impl Eprint, input: &mut impl Read) -> bool {
-    let mut next = [0u8; 1];
-    match input.read(&mut next) {
-        Ok(_) => true,
-        Err(error) => {
-            fail(rt, "standard input", &error);
-            false
-        }
-    }
+// Reads on where reading stopped: the input has ended there, or goes on; or reading fails.
+fn could_read(input: &mut impl Read) -> io::Result<()> {
+    input.read(&mut [0u8; 1])?;
+    Ok(())
 }
 
 // The text of a record.
@@ -67,7 +63,8 @@ fn main(rt: HostRuntime) {
     let mut bytes = [0u8; 65537];
     let mut input = rt.stdin();
     let n = read_full(&mut input, &mut bytes);
-    if could_read(&rt, &mut input) {
-        print(&rt, &bytes[..n]);
+    match could_read(&mut input) {
+        Ok(()) => print(&rt, &bytes[..n]),
+        Err(error) => fail(&rt, "standard input", &error),
     }
 }

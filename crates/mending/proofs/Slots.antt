@@ -308,9 +308,6 @@ module _ (b w : ℕ) (bs ws : List ℕ) (a d n : ℕ) (xs ys ap' us out : List �
 pub rest_long : (xs : List ℕ) → length xs - 1 ≡ length (take (length xs - 1) (drop 1 xs))
 rest_long xs = sym (ap length (rest xs 1) ∙ length-drop 1 xs)
 
-pub rest_most : (xs : List ℕ) (m : ℕ) → length xs ≤ suc m → length (take (length xs - 1) (drop 1 xs)) ≤ m
-rest_most xs m h = omega (arith, rest_long xs)
-
 -- no points, no values
 pub solved_none : (bs ws : List ℕ) (a d n : ℕ) (xs : List ℕ) → length bs ≡ 0 → Solved bs ws a d n xs xs
 solved_none bs ws a d n xs h = record { long = refl; at = λ q v hq hv. absurd (omega arith); off = λ i g. refl }
@@ -342,16 +339,6 @@ solved_last bs ws a d n xs out some e one wide f =
 
 -- ---- what the functions ask of each other
 
-pub spaced_rest : (e a d n len : ℕ) → Spaced e a d n len → 0 < e → Spaced (e - 1) (a + d) d n len
-spaced_rest e a d n len s h =
-    record {
-      few = omega (arith, s.few);
-      small = s.small;
-      step = s.step;
-      wide = s.wide;
-      room = λ v l. omega (arith, s.room (v + 1) (omega arith), add-mul v 1 d);
-    }
-
 pub first_sources : (e a d n len : ℕ) → Spaced e a d n len → 0 < e → Sources (e - 1) a (a + d) d n len
 first_sources e a d n len s h =
     record {
@@ -368,7 +355,3 @@ spaced_as e e' a d n len len' p q s =
 
 pub sources_as : (e e' a b d n len : ℕ) → e ≡ e' → Sources e a b d n len → Sources e' a b d n len
 sources_as e e' a b d n len p s = subst (λ (x : ℕ). Sources x a b d n len) p s
-
-pub some_of : (n : ℕ) → (n ≡ 0 → ⊥) → 0 < n
-some_of zero h = absurd (h refl)
-some_of (suc n) h = omega arith

@@ -9,9 +9,7 @@ pub(crate) fn gather(weights: &[u8], slots: &mut [u8], to: usize, from: usize, d
     requires { Sources (length weights.now) to from d n (length slots.old) }
     ensures { Gathered weights.now to from d n slots.old slots.new }
 {
-    let mut v = weights.len();
-    while 0 < v {
-        v = v - 1;
+    for v in (0..weights.len()).rev() {
         mix(slots, to, from + v * d, n, weights[v]);
     }
 }

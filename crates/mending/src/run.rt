@@ -1,4 +1,5 @@
 // Run by run, the errors of the lost data columns in place of what the rows to solve by lack.
+// A shape, its system and the slots travel one by one: in one value, that they fit (`Buffers`) would be shown anew after each write.
 ghost use Rattle.std.specs.Prelude.{◌≡◌, ◌+◌, ◌*◌, ◌≤◌, ◌<◌, length};
 ghost use Rattle.stripe.specs.Shape.{most_rows, most_rows_length};
 ghost use Rattle.stripe.specs.Stripe.{runs, run_length};
@@ -25,11 +26,9 @@ pub(crate) fn solve_runs(s: Shape, p: System, slots: &mut [u8])
     let l = s.l;
     let at = p.first * l;
     let d = p.step * l;
-    let mut b = 0;
-    while b < n {
+    for b in 0..n {
         carry(s, m, p, b, slots);
         solve_slots(&points[..count], &weights[..count], slots, at + b * m, d, m);
-        b += 1;
     }
 }
 
@@ -43,10 +42,8 @@ fn carry(s: Shape, m: usize, p: System, b: usize, slots: &mut [u8])
     if b < r {
         return;
     }
-    let mut j = 0;
-    while j < r {
+    for j in 0..r {
         add_row(s, p, 0, b, slots, j * l + b * m, j * m, m);
-        j += 1;
     }
 }
 

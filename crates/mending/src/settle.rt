@@ -19,12 +19,10 @@ pub(crate) fn settle(s: Shape, p: System, slots: &mut [u8]) -> bool
     ensures { Settles s p slots.old result slots.new }
 {
     let r = s.r;
-    let mut j = 0;
-    while j < r {
+    for j in 0..r {
         if !settle_row(s, p, j, slots) {
             return false;
         }
-        j += 1;
     }
     true
 }
@@ -47,12 +45,10 @@ fn solves(p: System, j: usize) -> bool
     requires { (p.count ≤ most_rows) × ((p.first ≤ most_rows) × (p.step ≤ most_rows)) }
     ensures { Says result (Solver p j) }
 {
-    let mut v = 0;
-    while v < p.count {
+    for v in 0..p.count {
         if p.first + p.step * v == j {
             return true;
         }
-        v += 1;
     }
     false
 }

@@ -1,7 +1,8 @@
 // Sums of powers solved at the n places of slots together, in place: the first point is taken out of the sums, the others are solved,
-// and the first value is what the first sum lacks. The others are fewer, so each number of points has a function of its own, and none
-// calls itself: that lets the compiler put them into their caller, which short columns gain most by.
-ghost use Rattle.std.specs.Prelude.{◌≡◌, ◌≤◌, ◌<◌, length, get_or};
+// and the first value is what the first sum lacks. The others are fewer, so the compiler makes a function for each number of points, and
+// none calls itself: that lets it put them into their caller, which short columns gain most by. `at`, `d` and `n` travel one by one: as a
+// record each call would take them apart.
+ghost use Rattle.std.specs.Prelude.{◌≡◌, ℕ, ◌+◌, ◌≤◌, ◌<◌, length, get_or};
 ghost use Rattle.field.specs.Field.{◌⊕◌, ◌⊗◌};
 ghost use Rattle.mending.specs.Slots.{Spaced, Cleared, First, SetApart, Solved};
 ghost use Rattle.stripe.specs.Shape.{most_rows};
@@ -25,44 +26,50 @@ pub(crate) fn solve_slots(
     requires { Spaced (length points.now) at d n (length slots.old) × (length weights.now ≡ length points.now) }
     ensures { Solved points.now weights.now at d n slots.old slots.new }
 {
-    let e = points.len();
-    if e == 0 {
-        return;
-    }
-    clear(points[0], e, slots, at, d, n);
-    let w = set_apart(points, weights);
-    let f = e - 1;
-    solve_two(&points[1..], &w[..f], slots, at + d, d, n);
-    first_value(weights, slots, at, d, n);
+    More::<More<One>>::solve(points, weights, slots, at, d, n)
 }
 
-// The same, at most two.
-fn solve_two(points: &[u8], weights: &[u8], slots: &mut [u8], at: usize, d: usize, n: usize)
-    requires { Spaced (length points.now) at d n (length slots.old)
-        × ((length weights.now ≡ length points.now) × (length points.now ≤ 2)) }
-    ensures { Solved points.now weights.now at d n slots.old slots.new }
-{
-    let e = points.len();
-    if e == 0 {
-        return;
-    }
-    clear(points[0], e, slots, at, d, n);
-    let w = set_apart(points, weights);
-    let f = e - 1;
-    solve_one(&points[1..], &w[..f], slots, at + d, d, n);
-    first_value(weights, slots, at, d, n);
+// The same of so many points at most.
+trait Solve {
+    ghost most: { ℕ };
+
+    fn solve(points: &[u8], weights: &[u8], slots: &mut [u8], at: usize, d: usize, n: usize)
+        requires { Spaced (length points.now) at d n (length slots.old)
+            × ((length weights.now ≡ length points.now) × (length points.now ≤ most)) }
+        ensures { Solved points.now weights.now at d n slots.old slots.new };
 }
 
-// The same, at most one.
-fn solve_one(points: &[u8], weights: &[u8], slots: &mut [u8], at: usize, d: usize, n: usize)
-    requires { Spaced (length points.now) at d n (length slots.old)
-        × ((length weights.now ≡ length points.now) × (length points.now ≤ 1)) }
-    ensures { Solved points.now weights.now at d n slots.old slots.new }
-{
-    if points.len() == 0 {
-        return;
+// One point.
+struct One;
+
+// One point more than S.
+struct More<S>(S);
+
+impl Solve for One {
+    ghost most = { 1 };
+
+    fn solve(points: &[u8], weights: &[u8], slots: &mut [u8], at: usize, d: usize, n: usize) {
+        if points.len() == 0 {
+            return;
+        }
+        first_value(weights, slots, at, d, n);
     }
-    first_value(weights, slots, at, d, n);
+}
+
+impl<S: Solve> Solve for More<S> {
+    ghost most = { S.most + 1 };
+
+    fn solve(points: &[u8], weights: &[u8], slots: &mut [u8], at: usize, d: usize, n: usize) {
+        let e = points.len();
+        if e == 0 {
+            return;
+        }
+        clear(points[0], e, slots, at, d, n);
+        let w = set_apart(points, weights);
+        let f = e - 1;
+        S::solve(&points[1..], &w[..f], slots, at + d, d, n);
+        first_value(weights, slots, at, d, n);
+    }
 }
 
 // Each slot but the first plus c times the slot before.
@@ -70,9 +77,7 @@ fn clear(c: u8, e: usize, slots: &mut [u8], at: usize, d: usize, n: usize)
     requires { Spaced e at d n (length slots.old) × (0 < e) }
     ensures { Cleared c e at d n slots.old slots.new }
 {
-    let mut u = e;
-    while 1 < u {
-        u = u - 1;
+    for u in (1..e).rev() {
         let to = at + u * d;
         mix(slots, to, to - d, n, c);
     }
@@ -84,10 +89,8 @@ fn set_apart(points: &[u8], weights: &[u8]) -> [u8; MOST_ROWS]
     ensures { SetApart points.now weights.now result }
 {
     let mut w = [0u8; MOST_ROWS];
-    let mut v = 0;
-    while v < MOST_ROWS {
+    for v in 0..MOST_ROWS {
         w[v] = weight_apart(points, weights, v + 1);
-        v += 1;
     }
     w
 }

@@ -65,10 +65,8 @@ pub(crate) fn row_weights(p: System, x: usize, j: usize) -> [u8; MOST_ROWS]
     ensures { (length result ≡ most_rows) × (take p.count result ≡ points j (less x (take p.count p.lost.at))) }
 {
     let mut w = [0u8; MOST_ROWS];
-    let mut v = 0;
-    while v < MOST_ROWS {
+    for v in 0..MOST_ROWS {
         w[v] = row_weight(p, x, j, v);
-        v += 1;
     }
     w
 }

@@ -15,15 +15,13 @@ pub(crate) fn write(s: Shape, p: System, slots: &[u8], stripe: &mut [u8])
     let l = s.l;
     let lost = p.lost;
     let at = lost.at;
-    let mut v = 0;
-    while v < lost.count {
+    for v in 0..lost.count {
         let i = at[v];
         let c = i * l;
         let e = c + l;
         let a = slot_row(s, p, v, i) * l;
         let f = a + l;
         add(&mut stripe[c..e], &slots[a..f]);
-        v += 1;
     }
 }
 

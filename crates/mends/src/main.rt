@@ -1,5 +1,6 @@
 // The mending program on many records: each argument names a file, which is what the program proper would read on standard input.
-// Where a file can't be opened or read, or the text not be written, a line on standard error says which and why.
+// Where a file can't be opened or read, or the text not be written, a line on standard error says which and why. What it shares with `mend`
+// stands in both, as is said there.
 #![tactic(auto)]
 
 ghost use Rattle.std.specs.Prelude.{◌≡◌, ◌≤◌, length};
@@ -30,6 +31,7 @@ fn fail(rt: &impl Eprint, what: &str, error: &io::Error) {
 }
 
 // Reads until the buffer is full, the file ends or a read fails, and answers how many bytes it put at the front.
+// No `Result`: where a read fails, one more is tried afterwards, and that may not change (docs/PORT.md, 'Programs').
 fn read_full(file: &mut impl Read, buf: &mut [u8]) -> usize
     ensures { result ≤ length buf.new }
 {
@@ -44,16 +46,10 @@ fn read_full(file: &mut impl Read, buf: &mut [u8]) -> usize
     done
 }
 
-// Whether the file had ended where reading stopped, or goes on; else reading failed, which is said.
-fn could_read(rt: &impl Eprint, file: &mut impl Read, path: &str) -> bool {
-    let mut next = [0u8; 1];
-    match file.read(&mut next) {
-        Ok(_) => true,
-        Err(error) => {
-            fail(rt, path, &error);
-            false
-        }
-    }
+// Reads on where reading stopped: the file has ended there, or goes on; or reading fails.
+fn could_read(file: &mut impl Read) -> io::Result<()> {
+    file.read(&mut [0u8; 1])?;
+    Ok(())
 }
 
 // The text of a record.
@@ -80,10 +76,11 @@ fn one(rt: &(impl Files + Print + Eprint), path: &[u8]) {
     };
     let mut bytes = [0u8; 65537];
     let n = read_full(&mut file, &mut bytes);
-    let readable = could_read(rt, &mut file, path);
+    let end = could_read(&mut file);
     drop(file);
-    if readable {
-        print(rt, &bytes[..n]);
+    match end {
+        Ok(()) => print(rt, &bytes[..n]),
+        Err(error) => fail(rt, path, &error),
     }
 }
 

@@ -11,8 +11,7 @@ use lib.ListN.{length, get_or}
 use borrow.Author.Tests.{le-leb, lt-leb, lt-ltb, le-ltb, eq-eqb, ne_eqb, eqb-false}
 use Rattle.field.specs.Bytes.{Bytes}
 use Rattle.field.proofs.Cases.{below_or_from}
-use Rattle.number.specs.declared.Number.{Number}
-use Rattle.number.specs.declared.Number.TheVariants.{Value, Cut, Malformed}
+use Rattle.number.specs.Number.{Standing, Value, Cut, Malformed}
 use Rattle.number.specs.Number.{onto, groups_at, limited}
 
 pub at_none : (m : ℕ) (s : List ℕ) (at : ℕ) → m ≡ 0 → Malformed ≡ groups_at m s at
@@ -38,20 +37,14 @@ at_more (suc m) s at h e b =
     rw (p, lt-ltb at (length s) e, le-ltb (get_or s at 0) 128 b)
 
 -- one more group, of a number and of none
-pub onto-zero : (d v next : ℕ) (g : Number) → Value v next ≡ g → v ≡ 0 → Malformed ≡ onto d g
+pub onto-zero : (d v next : ℕ) (g : Standing) → Value v next ≡ g → v ≡ 0 → Malformed ≡ onto d g
 onto-zero d v next g e z = rw (← e, eq-eqb v 0 z)
 
-pub onto_more : (d v next : ℕ) (g : Number) → Value v next ≡ g → (v ≡ 0 → ⊥) → Value (d + 128 * v) next ≡ onto d g
+pub onto_more : (d v next : ℕ) (g : Standing) → Value v next ≡ g → (v ≡ 0 → ⊥) → Value (d + 128 * v) next ≡ onto d g
 onto_more d v next g e z = rw (← e, ne_eqb v 0 z)
 
--- what is no number stays as it is
-pub onto_none : (d : ℕ) (g : Number) → ((v next : ℕ) → g ≡ Value v next → ⊥) → g ≡ onto d g
-onto_none d (Value v next) h = absurd (h v next refl)
-onto_none d Cut h = refl
-onto_none d Malformed h = refl
-
 -- a group before a number makes a number only where that one is not zero
-pub onto_value : (d v next : ℕ) (g : Number) → onto d g ≡ Value v next → (u : ℕ) × (g ≡ Value u next) × (u ≡ 0 → ⊥) × (v ≡ d + 128 * u)
+pub onto_value : (d v next : ℕ) (g : Standing) → onto d g ≡ Value v next → (u : ℕ) × (g ≡ Value u next) × (u ≡ 0 → ⊥) × (v ≡ d + 128 * u)
 onto_value d v next (Value u n) e = go (eqb u 0) refl e
   where
     go : (b : Bool) → eqb u 0 ≡ b → cond b Malformed (Value (d + 128 * u) n) ≡ Value v next
@@ -61,7 +54,7 @@ onto_value d v next (Value u n) e = go (eqb u 0) refl e
 onto_value d v next Cut e = absurd (let z : ◌≡◌ {A = ℕ} 0 1 = cc in omega arith)
 onto_value d v next Malformed e = absurd (let z : ◌≡◌ {A = ℕ} 0 1 = cc in omega arith)
 
-pub onto_cut : (d : ℕ) (g : Number) → onto d g ≡ Cut → g ≡ Cut
+pub onto_cut : (d : ℕ) (g : Standing) → onto d g ≡ Cut → g ≡ Cut
 onto_cut d (Value u n) e = go (eqb u 0) e
   where
     go : (b : Bool) → cond b Malformed (Value (d + 128 * u) n) ≡ Cut → Value u n ≡ Cut
@@ -106,13 +99,8 @@ left_small m s at v next h z l e =
     omega (arith, groups_small (m - 1) s (at + 1) v next h e, pow-le-pow_right {n = 128} (lit< tt) {i = m - 1} {j = 4} (omega arith))
 
 -- the largest number
-pub limited_none : (g : Number) → ((v next : ℕ) → g ≡ Value v next → ⊥) → g ≡ limited g
-limited_none (Value v next) h = absurd (h v next refl)
-limited_none Cut h = refl
-limited_none Malformed h = refl
-
-pub limited_above : (v next : ℕ) (g : Number) → Value v next ≡ g → 4294967295 < v → Malformed ≡ limited g
+pub limited_above : (v next : ℕ) (g : Standing) → Value v next ≡ g → 4294967295 < v → Malformed ≡ limited g
 limited_above v next g e h = rw (← e, lt-leb v 4294967295 h)
 
-pub limited_within : (v next : ℕ) (g : Number) → Value v next ≡ g → v ≤ 4294967295 → Value v next ≡ limited g
+pub limited_within : (v next : ℕ) (g : Standing) → Value v next ≡ g → v ≤ 4294967295 → Value v next ≡ limited g
 limited_within v next g e h = rw (← e, le-leb v 4294967295 h)

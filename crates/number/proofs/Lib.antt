@@ -1,4 +1,5 @@
 pub mod Groups
 pub mod Written
 pub mod Placed
+pub mod Reported
 pub mod Unique

@@ -1,8 +1,10 @@
 -- Any two outcomes that a contract of this crate allows are equal: what is returned, and what lent memory holds.
-use mathlib.Core.Path.{◌≡◌, sym, ◌∙◌}
+use mathlib.Core.Path.{◌≡◌, refl, sym, ◌∙◌}
 use contract.Lifetimes.{Lfts}
 use borrow.Fn.World.{ArgsD, ResD}
 use denote.Triple.Clauses.{AtExit}
+use Rattle.stripe.proofs.Refused.{same_answer}
+use Rattle.number.proofs.Reported.{same_reported}
 use Rattle.number.specs.contracts.read_number as read_number
 use Rattle.number.proofs.read_number.Reads as read-number-reads
 use Rattle.number.specs.contracts.number_refusal as number-refusal
@@ -14,12 +16,12 @@ use Rattle.number.proofs.write_number.Reads as write-number-reads
 
 pub read_number_unique : (κs : Lfts 1) (a : ArgsD read_number.signature κs) (r r' : ResD read_number.signature κs) (s s' : AtExit read_number.ended κs)
     → read-number-reads.Post κs a r s → read-number-reads.Post κs a r' s' → r ≡ r'
-read_number_unique κs a r r' s s' p q = p ∙ sym q
+read_number_unique κs a r r' s s' p q = same_reported r r' (p ∙ sym q)
 
 pub number_refusal_unique : (κs : Lfts 0) (a : ArgsD number-refusal.signature κs) (r r' : ResD number-refusal.signature κs)
     (s s' : AtExit number-refusal.ended κs)
     → number-refusal-reads.Post κs a r s → number-refusal-reads.Post κs a r' s' → r ≡ r'
-number_refusal_unique κs a r r' s s' p q = p ∙ sym q
+number_refusal_unique κs a r r' s s' p q = same_answer r r' (p ∙ sym q) (λ x y e f. refl)
 
 pub number_length_unique : (κs : Lfts 0) (a : ArgsD number-length.signature κs) (r r' : ResD number-length.signature κs) (s s' : AtExit number-length.ended κs)
     → number-length-reads.Post κs a r s → number-length-reads.Post κs a r' s' → r ≡ r'

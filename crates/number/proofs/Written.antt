@@ -13,8 +13,7 @@ use lib.Seq.{drop-cons, sets}
 use borrow.Author.Tests.{lt-ltb, le-ltb, leb-true}
 use Rattle.field.specs.Bytes.{Bytes}
 use Rattle.field.proofs.Cases.{below_or_from}
-use Rattle.number.specs.declared.Number.{Number}
-use Rattle.number.specs.declared.Number.TheVariants.{Value, Cut, Malformed}
+use Rattle.number.specs.Number.{Standing, Value, Cut, Malformed}
 use Rattle.number.specs.Number.{groups, written, onto, groups_at, limited, number_at, number_refusal, value_of, next_of}
 use Rattle.number.proofs.Groups.{View, view, ended, last, more, onto_value, onto_cut, onto_more, at_last, at_more, at_end, limited_within}
 
@@ -157,7 +156,7 @@ groups_only (suc m) s at v next h e = go (view m s at) (λ u. groups_only m s (a
           drop_next s at l ∙ ap (λ (xs : List ℕ). get_or s at 0 ∷ xs) i.1 ∙ ap (λ (xs : List ℕ). xs ++ drop next s) (sym g),
         )
 
-pub limited_value : (g : Number) (v next : ℕ) → limited g ≡ Value v next → (g ≡ Value v next) × (v ≤ 4294967295)
+pub limited_value : (g : Standing) (v next : ℕ) → limited g ≡ Value v next → (g ≡ Value v next) × (v ≤ 4294967295)
 limited_value (Value u n) v next e = go (leb u 4294967295) refl e
   where
     go : (b : Bool) → leb u 4294967295 ≡ b → cond b (Value u n) Malformed ≡ Value v next → (Value u n ≡ Value v next) × (v ≤ 4294967295)
@@ -166,7 +165,7 @@ limited_value (Value u n) v next e = go (leb u 4294967295) refl e
 limited_value Cut v next e = absurd (let z : ◌≡◌ {A = ℕ} 0 1 = cc in omega arith)
 limited_value Malformed v next e = absurd (let z : ◌≡◌ {A = ℕ} 0 1 = cc in omega arith)
 
-limited_cut : (g : Number) → limited g ≡ Cut → g ≡ Cut
+limited_cut : (g : Standing) → limited g ≡ Cut → g ≡ Cut
 limited_cut (Value u n) e = go (leb u 4294967295) e
   where
     go : (b : Bool) → cond b (Value u n) Malformed ≡ Cut → Value u n ≡ Cut
@@ -197,11 +196,11 @@ pub number_read : (s : List ℕ) (at : ℕ) → Bytes s
     ⊎ ((number_refusal (number_at s at) ≡ 9) × ((v next : ℕ) → Stands s at v next → ⊥))
 number_read s at h = go (number_at s at) refl
   where
-    other : (g : Number) → number_at s at ≡ g → number_refusal g ≡ 9 → (v next : ℕ) → Stands s at v next → ⊥
+    other : (g : Standing) → number_at s at ≡ g → number_refusal g ≡ 9 → (v next : ℕ) → Stands s at v next → ⊥
     other g e n v next w =
         let z : number_refusal g ≡ 0 = ap number_refusal (sym e ∙ read_written s (drop next s) at v w.most w.bytes) in omega arith
 
-    go : (g : Number) → number_at s at ≡ g
+    go : (g : Standing) → number_at s at ≡ g
         → ((number_refusal g ≡ 0) × Stands s at (value_of g) (next_of g)) ⊎ ((number_refusal g ≡ 9) × ((v next : ℕ) → Stands s at v next → ⊥))
     go (Value v next) e = let w = only_written s at v next h e in inl (refl, record { most = w.0; past = w.1; bytes = w.2 })
     go Cut e = inr (refl, other Cut e refl)

@@ -4,64 +4,82 @@
 
 ghost use Rattle.std.specs.Prelude.{◌≡◌, ◌+◌, ◌≤◌, length};
 ghost use Rattle.std.proofs.lemmas.List.Edits.{sets};
-ghost use Rattle.number.specs.Number.{number_at, groups_at, number_refusal, written, count_placed, placed};
+ghost use Rattle.stripe.specs.declared.refusal.Refusal.TheVariants.{Cut};
+ghost use Rattle.stripe.specs.Refusal.{refusal_of};
+ghost use Rattle.number.specs.Number.{reported, number_refusal, number_at, groups_at, written, count_placed, placed};
 
-// What stands at a place: a number with the place after it; the beginning of one, which the end cuts off; or neither.
+use stripe::refusal::Refusal;
+
+// A number, and the place after it.
+#[derive(Clone, Copy, Default)]
+pub struct Number {
+    pub value: usize,
+    pub next: usize,
+}
+
+// Why no number stands at a place.
 #[derive(Clone, Copy)]
-pub enum Number {
-    Value(usize, usize),
+pub enum Flaw {
+    // The end cuts one off.
     Cut,
+    // What stands there begins no number.
     Malformed,
 }
 
-// The number at a place.
-pub fn read_number(s: &[u8], at: usize) -> Number
-    ensures { result ≡ number_at s.now at }
-{
-    let got = groups_at(s, at, 5);
-    let Number::Value(value, next) = got else {
-        return got;
-    };
-    if 4294967295 < value {
-        return Number::Malformed;
+// What is cut and what is malformed are refused alike.
+impl From<Flaw> for Refusal {
+    ghost from_gives = { λ _ no. no ≡ Cut };
+
+    fn from(_flaw: Flaw) -> Refusal {
+        Refusal::Cut
     }
-    Number::Value(value, next)
+}
+
+// Refused as `Cut`, whether it is cut or malformed; accepted where it is a number.
+pub fn number_refusal(n: Result<Number, Flaw>) -> Result<(), Refusal>
+    ensures { refusal_of result ≡ number_refusal (reported n) }
+{
+    match n {
+        Ok(_) => Ok(()),
+        Err(flaw) => Err(flaw.into()),
+    }
+}
+
+// The number at a place.
+pub fn read_number(s: &[u8], at: usize) -> Result<Number, Flaw>
+    ensures { reported result ≡ number_at s.now at }
+{
+    let number = groups_at(s, at, 5)?;
+    if 4294967295 < number.value {
+        return Err(Flaw::Malformed);
+    }
+    Ok(number)
 }
 
 // The number at a place, of at most m groups.
-fn groups_at(s: &[u8], at: usize, m: usize) -> Number
+fn groups_at(s: &[u8], at: usize, m: usize) -> Result<Number, Flaw>
     requires { m ≤ 5 }
-    ensures { result ≡ groups_at m s.now at }
+    ensures { reported result ≡ groups_at m s.now at }
 {
     if m == 0 {
-        return Number::Malformed;
+        return Err(Flaw::Malformed);
     }
     if s.len() <= at {
-        return Number::Cut;
+        return Err(Flaw::Cut);
     }
-    let b = s[at] as usize;
+    let b = usize::from(s[at]);
+    let next = at + 1;
     if b < 128 {
-        return Number::Value(b, at + 1);
+        return Ok(Number { value: b, next });
     }
-    let rest = groups_at(s, at + 1, m - 1);
-    let Number::Value(value, next) = rest else {
-        return rest;
-    };
-    if value == 0 {
-        return Number::Malformed;
+    let rest = groups_at(s, next, m - 1)?;
+    if rest.value == 0 {
+        return Err(Flaw::Malformed);
     }
-    Number::Value(b - 128 + 128 * value, next)
-}
-
-// The refusal of what is no number: 9 whether it is cut or malformed. 0 for a number.
-pub fn number_refusal(n: Number) -> u32
-    ensures { result ≡ number_refusal n }
-{
-    match n {
-        Number::Value(_, _) => 0,
-        Number::Cut => 9,
-        Number::Malformed => 9,
-    }
+    Ok(Number {
+        value: b - 128 + 128 * rest.value,
+        next: rest.next,
+    })
 }
 
 // How many bytes a number takes.
@@ -78,6 +96,7 @@ pub fn number_length(value: u32) -> usize
 }
 
 // Writes the number at a place, and answers how many bytes it took; 0, and nothing is written, where there is no room.
+// A count as it is, and no Option of one: no number takes 0 bytes, and `at` plus the count is the next place either way.
 pub fn write_number(value: u32, out: &mut [u8], at: usize) -> usize
     ensures value { result ≡ count_placed out.old at (written value) }
     ensures out_after { out.new ≡ placed out.old at (written value) }
@@ -93,7 +112,8 @@ pub fn write_number(value: u32, out: &mut [u8], at: usize) -> usize
     n
 }
 
-// Writes the number at a place with room for it.
+// Writes the number at a place with room for it. The place goes along with the groups: a `for` over the places would have to
+// ask at each of them whether its group is the last.
 fn put_number(value: u32, out: &mut [u8], at: usize)
     requires { at + length (written value) ≤ length out.old }
     ensures { out.new ≡ sets out.old at (written value) }

@@ -1,7 +1,10 @@
 -- A sum of counts fits, or is 2^64-1; a bill of them.
-use mathlib.Core.Path.{◌≡◌, sym, ap}
+use mathlib.Core.Path.{◌≡◌, sym, ap, ◌∙◌}
 use mathlib.Core.Bool.{Bool, cond}
-use Prim.Native.Nat.{ℕ, ◌-◌, ◌<◌, ◌≤◌, ◌^◌}
+use mathlib.Core.Logic.{◌⊎◌, inl, inr}
+use Prim.Native.Nat.{ℕ, ◌-◌, ◌<◌, ◌≤◌, ◌^◌, min}
+use native.Mathlib.Omega.{arith}
+use Rattle.field.proofs.Cases.{below_or_from}
 use borrow.Author.Tests.{lt-ltb, le-ltb}
 use Rattle.plan.specs.declared.counts.Bill.{Bill}
 use Rattle.plan.specs.Counts.{capped}
@@ -11,6 +14,13 @@ capped_is n h = sym (ap (λ (b : Bool). cond b n (2 ^ 64 - 1)) (lt-ltb n (2 ^ 64
 
 pub capped_most : (n : ℕ) → 2 ^ 64 ≤ n → 2 ^ 64 - 1 ≡ capped n
 capped_most n h = sym (ap (λ (b : Bool). cond b n (2 ^ 64 - 1)) (le-ltb n (2 ^ 64) h))
+
+pub capped_least : (n : ℕ) → min n (2 ^ 64 - 1) ≡ capped n
+capped_least n = go (below_or_from n (2 ^ 64))
+  where
+    go : (n < 2 ^ 64) ⊎ (2 ^ 64 ≤ n) → min n (2 ^ 64 - 1) ≡ capped n
+    go (inl h) = omega arith ∙ capped_is n h
+    go (inr h) = omega arith ∙ capped_most n h
 
 -- a bill is told by its six numbers
 pub same_bill : (a b : Bill) → a.columns.read.0 ≡ b.columns.read.0 → a.columns.written.0 ≡ b.columns.written.0

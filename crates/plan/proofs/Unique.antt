@@ -1,8 +1,9 @@
 -- Any two outcomes that a contract of this crate allows for the same arguments are equal.
-use mathlib.Core.Path.{◌≡◌, sym, ◌∙◌}
+use mathlib.Core.Path.{◌≡◌, refl, sym, ◌∙◌}
 use contract.Lifetimes.{Lfts}
 use borrow.Fn.World.{ArgsD, ResD}
 use denote.Triple.Clauses.{AtExit}
+use Rattle.stripe.proofs.Refused.{same_answer}
 use Rattle.plan.specs.contracts.fold_refusal as fold-refusal
 use Rattle.plan.proofs.fold_refusal.Reads as fold-refusal-reads
 use Rattle.plan.specs.contracts.kind_of as kind-of
@@ -30,7 +31,7 @@ use Rattle.plan.proofs.counts.Bytes.is.Reads as bytes-is-reads
 
 pub fold_refusal_unique : (κs : Lfts 0) (a : ArgsD fold-refusal.signature κs) (r r' : ResD fold-refusal.signature κs) (s s' : AtExit fold-refusal.ended κs)
     → fold-refusal-reads.Post κs a r s → fold-refusal-reads.Post κs a r' s' → r ≡ r'
-fold_refusal_unique κs a r r' s s' p q = p ∙ sym q
+fold_refusal_unique κs a r r' s s' p q = same_answer r r' (p ∙ sym q) (λ x y e f. refl)
 
 pub kind_of_unique : (κs : Lfts 0) (a : ArgsD kind-of.signature κs) (r r' : ResD kind-of.signature κs) (s s' : AtExit kind-of.ended κs)
     → kind-of-reads.Post κs a r s → kind-of-reads.Post κs a r' s' → r ≡ r'

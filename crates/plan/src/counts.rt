@@ -1,6 +1,6 @@
 // How much a fold reads and writes. Disks accessed and data transferred are counted apart: each is added only within its own kind. The
 // field of each is this module's own, so that one is made only by counting a plan. Every function is total: what is refused reads and
-// writes nothing.
+// writes nothing, and is counted as 0, as C is told it (`columns_read` and the other definitions), and not as no count.
 ghost use Rattle.std.specs.Prelude.{◌≡◌, ◌+◌, ◌≤◌, eqb};
 ghost use Rattle.stripe.specs.Shape.{shape_refusal, most_parity};
 ghost use Rattle.plan.specs.Plan.{kind_of, columns_each, bytes_each, columns_read, bytes_read, columns_written, bytes_written};
@@ -19,27 +19,19 @@ pub struct Columns(u64);
 #[derive(Clone, Copy)]
 pub struct Bytes(u64);
 
-// Columns read, columns written, and their sum.
+// What is read, what is written, and their sum, in columns or in bytes.
 #[derive(Clone, Copy)]
-pub struct ColumnBill {
-    pub read: Columns,
-    pub written: Columns,
-    pub sum: Columns,
-}
-
-// Bytes read, bytes written, and their sum.
-#[derive(Clone, Copy)]
-pub struct ByteBill {
-    pub read: Bytes,
-    pub written: Bytes,
-    pub sum: Bytes,
+pub struct Moved<T> {
+    pub read: T,
+    pub written: T,
+    pub sum: T,
 }
 
 // What a fold costs, columns and bytes apart.
 #[derive(Clone, Copy)]
 pub struct Bill {
-    pub columns: ColumnBill,
-    pub bytes: ByteBill,
+    pub columns: Moved<Columns>,
+    pub bytes: Moved<Bytes>,
 }
 
 impl Columns {
@@ -47,11 +39,7 @@ impl Columns {
     pub fn plus(self, o: Columns) -> Columns
         ensures { result.0 ≡ capped (self.0 + o.0) }
     {
-        if self.0 <= 0xffff_ffff_ffff_ffff - o.0 {
-            Columns(self.0 + o.0)
-        } else {
-            Columns(0xffff_ffff_ffff_ffff)
-        }
+        Columns(self.0.saturating_add(o.0))
     }
 
     // How many columns, which is how many spans: the one way from a count to a number. `Bytes` has none.
@@ -68,11 +56,7 @@ impl Bytes {
     pub fn plus(self, o: Bytes) -> Bytes
         ensures { result.0 ≡ capped (self.0 + o.0) }
     {
-        if self.0 <= 0xffff_ffff_ffff_ffff - o.0 {
-            Bytes(self.0 + o.0)
-        } else {
-            Bytes(0xffff_ffff_ffff_ffff)
-        }
+        Bytes(self.0.saturating_add(o.0))
     }
 
     // Whether an input of this length has so many bytes.
@@ -100,7 +84,7 @@ pub(crate) fn columns_each(s: Shape, f: usize) -> Columns
 pub fn columns_read(s: Shape, stripes: usize, f: usize) -> Columns
     ensures { result.0 ≡ columns_read s stripes f }
 {
-    if fold_refusal(s, stripes, f) != 0 {
+    if fold_refusal(s, stripes, f).is_err() {
         return Columns(0);
     }
     Columns(stripes as u64 * columns_each(s, f).0)
@@ -130,7 +114,7 @@ fn bytes_each(s: Shape, f: usize) -> Bytes
 pub fn bytes_read(s: Shape, stripes: usize, f: usize) -> Bytes
     ensures { result.0 ≡ bytes_read s stripes f }
 {
-    if fold_refusal(s, stripes, f) != 0 {
+    if fold_refusal(s, stripes, f).is_err() {
         return Bytes(0);
     }
     Bytes(stripes as u64 * bytes_each(s, f).0)
@@ -140,7 +124,7 @@ pub fn bytes_read(s: Shape, stripes: usize, f: usize) -> Bytes
 fn columns_written(s: Shape, stripes: usize, f: usize) -> Columns
     ensures { result.0 ≡ columns_written s stripes f }
 {
-    if fold_refusal(s, stripes, f) != 0 {
+    if fold_refusal(s, stripes, f).is_err() {
         return Columns(0);
     }
     Columns(f as u64)
@@ -150,7 +134,7 @@ fn columns_written(s: Shape, stripes: usize, f: usize) -> Columns
 fn bytes_written(s: Shape, stripes: usize, f: usize) -> Bytes
     ensures { result.0 ≡ bytes_written s stripes f }
 {
-    if fold_refusal(s, stripes, f) != 0 {
+    if fold_refusal(s, stripes, f).is_err() {
         return Bytes(0);
     }
     Bytes((f * s.l) as u64)
@@ -165,12 +149,12 @@ pub fn bill_of(s: Shape, stripes: usize, f: usize) -> Bill
     let bytes = bytes_read(s, stripes, f);
     let new_bytes = bytes_written(s, stripes, f);
     Bill {
-        columns: ColumnBill {
+        columns: Moved {
             read: columns,
             written: new_columns,
             sum: columns.plus(new_columns),
         },
-        bytes: ByteBill {
+        bytes: Moved {
             read: bytes,
             written: new_bytes,
             sum: bytes.plus(new_bytes),

@@ -4,10 +4,12 @@
 
 ghost use Rattle.std.specs.Prelude.{◌≡◌, ◌*◌, ◌<◌, ◌≤◌};
 ghost use Rattle.stripe.specs.Shape.{shape_refusal, most_data, most_parity, most_columns};
+ghost use Rattle.stripe.specs.Refusal.{refusal_of};
 ghost use Rattle.plan.specs.Plan.{fold_refusal, stripes_allowed, new_allowed, kind_of};
 ghost use Rattle.plan.specs.Plan.{columns_each, columns_read, column_span, span_at, wide_answer};
 
 use crate::counts::{columns_each, columns_read};
+use stripe::refusal::Refusal;
 use stripe::{MOST_DATA, MOST_POINTS, MOST_ROWS, Shape};
 
 pub mod counts;
@@ -30,21 +32,18 @@ pub struct Span {
     pub length: u32,
 }
 
-// 1 or 2 where the shape is not allowed, else 3 where the number of stripes is not, else 4 where f is not, else 0.
-pub fn fold_refusal(s: Shape, stripes: usize, f: usize) -> u32
-    ensures { result ≡ fold_refusal s stripes f }
+// Refused as the shape is, else as `Stripes` where the number of stripes is not allowed, else as `NewParity` where f is not.
+pub fn fold_refusal(s: Shape, stripes: usize, f: usize) -> Result<(), Refusal>
+    ensures { refusal_of result ≡ fold_refusal s stripes f }
 {
-    let no = s.refusal();
-    if no != 0 {
-        return no;
-    }
+    s.refusal()?;
     if !stripes_allowed(s.k, s.r, stripes) {
-        return 3;
+        return Err(Refusal::Stripes);
     }
     if !new_allowed(s.r, s.t, f) {
-        return 4;
+        return Err(Refusal::NewParity);
     }
-    0
+    Ok(())
 }
 
 // Whether n is 2 to 255 with n * k at most 255 and, if r is above 3, n * k + r at most 255.
@@ -139,7 +138,7 @@ fn span_of(stripe: usize, position: usize, first: usize, length: usize) -> Span
     }
 }
 
-// Span number i of the plan, and a span of no bytes where the plan has none.
+// Span number i of the plan, and a span of no bytes, no Option, where the plan has none (`span_at`).
 pub fn span_at(s: Shape, stripes: usize, f: usize, i: usize) -> Span
     ensures { result ≡ span_at s stripes f i }
 {
@@ -150,11 +149,11 @@ pub fn span_at(s: Shape, stripes: usize, f: usize, i: usize) -> Span
     column_span(s, f, i / each, i % each)
 }
 
-// The shape of the wide stripe; where the fold is refused a shape of no columns, which is never allowed.
+// The shape of the wide stripe; where the fold is refused a shape of no columns, which is never allowed, and no Option (`wide_answer`).
 pub fn wide_shape(s: Shape, stripes: usize, f: usize) -> Shape
     ensures { result ≡ wide_answer s stripes f }
 {
-    if fold_refusal(s, stripes, f) != 0 {
+    if fold_refusal(s, stripes, f).is_err() {
         return Shape::new(0, 0, 0, 0);
     }
     Shape::new(stripes * s.k, f, 0, s.l)

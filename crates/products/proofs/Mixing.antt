@@ -3,7 +3,8 @@ use mathlib.Core.Path.{◌≡◌, refl, sym, ap, ap₂, ◌∙◌, subst}
 use mathlib.Core.Bool.{Bool, true, false, cond, true≢false, ◌&&◌, ◌||◌}
 use mathlib.Core.List.{List, ◌++◌}
 use mathlib.Core.Logic.{◌⊎◌, inl, inr}
-use Prim.Native.Nat.{ℕ, ◌+◌, ◌-◌, ◌<◌, ◌≤◌}
+use Prim.Native.Nat.{ℕ, ◌+◌, ◌-◌, ◌*◌, ◌/◌, ◌<◌, ◌≤◌}
+use native.Mathlib.Nat.{zero-mul, mul-le-mul_left, div-mul-le_self}
 use native.Mathlib.Omega.{arith}
 use lib.Dec.{leb, ltb}
 use lib.ListN.{length, get_or, take, drop, replicate, length-drop, length-append, length-replicate, get_or-append}
@@ -120,7 +121,7 @@ disjoint_next {a} {b} {m} {len} q k l h = record { first = omega (arith, h.first
     go (inr e) = inr (omega arith)
 
 -- fewer places
-disjoint_less : {a b m len : ℕ} (n : ℕ) → n ≤ m → Disjoint a b m len → Disjoint a b n len
+pub disjoint_less : {a b m len : ℕ} (n : ℕ) → n ≤ m → Disjoint a b m len → Disjoint a b n len
 disjoint_less {a} {b} {m} {len} n l h = record { first = omega (arith, h.first); second = omega (arith, h.second); clear = go h.clear }
   where
     go : (a + m ≤ b) ⊎ (b + m ≤ a) → (a + n ≤ b) ⊎ (b + n ≤ a)
@@ -234,6 +235,28 @@ pub within_part : {f : ℕ → ℕ → ℕ} {a b m q : ℕ} {xs ys zs : List ℕ
 within_part {f} {a} {b} {m} {q} {xs} {ys} {zs} k h l t is =
     within_more (disjoint_less (q + k) l h) t (within_made (disjoint_is (part_ready q k ys h l t.long)) is)
 
+-- q of m places that are apart, and the next k
+pub within_two : {f : ℕ → ℕ → ℕ} {a b m : ℕ} {xs ys zs : List ℕ} (q k : ℕ) → Disjoint a b m (length xs) → q + k ≤ m → ys ≡ within f a b q xs
+    → zs ≡ within f (a + q) (b + q) k ys → Within f a b (q + k) xs zs
+within_two {f} {a} {b} {m} {xs} {ys} {zs} q k h l first next = within_part k h l (within_made (disjoint_less q (omega arith) h) first) next
+
 -- n places done are all of them
 pub within_done : {f : ℕ → ℕ → ℕ} {a b q : ℕ} {xs zs : List ℕ} (n : ℕ) → Disjoint a b n (length xs) → q ≡ n → Within f a b q xs zs → zs ≡ within f a b n xs
 within_done {f} {a} {b} {q} {xs} {zs} n h e t = within_same (subst (λ (m : ℕ). Within f a b m xs zs) e t) (within_places f a b n xs h)
+
+-- ---- blocks of k of n places, b of them
+
+pub block_fits : (b k n : ℕ) → b < n / k → b * k + k ≤ n
+block_fits b k n h = omega (arith, mul-le-mul_left k h, div-mul-le_self n k)
+
+pub blocks_fit : (k n : ℕ) → n / k * k ≤ n
+blocks_fit k n = div-mul-le_self n k
+
+pub blocks_start : (f : ℕ → ℕ → ℕ) (a b k : ℕ) (xs : List ℕ) → Within f a b (0 * k) xs xs
+blocks_start f a b k xs = subst (λ (m : ℕ). Within f a b m xs xs) (sym (zero-mul k)) (within_start f a b xs)
+
+pub blocks_turn : {f : ℕ → ℕ → ℕ} {a b i n : ℕ} {xs ys zs : List ℕ} (k : ℕ) → Disjoint a b n (length xs) → i < n / k → Within f a b (i * k) xs ys
+    → zs ≡ within f (a + i * k) (b + i * k) k ys → Within f a b ((i + 1) * k) xs zs
+blocks_turn {f} {a} {b} {i} {n} {xs} {ys} {zs} k h l t is =
+    let next : i * k + k ≡ (i + 1) * k = omega arith in
+    subst (λ (m : ℕ). Within f a b m xs zs) next (within_part k h (block_fits i k n l) t is)

@@ -1,14 +1,7 @@
 -- The multiples by which a product is made.
-use Rattle.std.specs.Prelude.{◌≡◌}
+use Rattle.std.specs.Prelude.{ℕ, ◌+◌, ◌<◌, ◌≡◌, List, slice_index}
 use Rattle.field.specs.Field.{◌⊗◌}
-use Rattle.products.specs.declared.Multiples.{Multiples}
 
--- each number is twice the one before
-pub record Doubling (m : Multiples) : Type 0 where
-  pub one : m.t1 ≡ 2 ⊗ m.t0
-  pub two : m.t2 ≡ 2 ⊗ m.t1
-  pub three : m.t3 ≡ 2 ⊗ m.t2
-  pub four : m.t4 ≡ 2 ⊗ m.t3
-  pub five : m.t5 ≡ 2 ⊗ m.t4
-  pub six : m.t6 ≡ 2 ⊗ m.t5
-  pub seven : m.t7 ≡ 2 ⊗ m.t6
+-- each of the eight numbers is twice the one before
+pub record Doubling (m : List ℕ) : Type 0 where
+  pub twice : (i : ℕ) → i < 7 → slice_index m (i + 1) ≡ 2 ⊗ slice_index m i

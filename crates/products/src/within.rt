@@ -1,5 +1,5 @@
 // Bytes of one slice taken to others of it, by way of a block: so the compiler need not ask whether the two overlap.
-ghost use Rattle.std.specs.Prelude.{◌≡◌, true, ℕ, ◌≤◌, ◌<◌, length};
+ghost use Rattle.std.specs.Prelude.{◌≡◌, true, ℕ, ◌≤◌, ◌<◌, ◌*◌, ◌/◌, length};
 ghost use Rattle.field.specs.Field.{◌⊕◌, ◌⊗◌};
 ghost use Rattle.products.specs.Within.{disjoint, within, Halved};
 
@@ -14,29 +14,23 @@ pub fn mix(a: &mut [u8], to: usize, from: usize, n: usize, c: u8)
     if !are_disjoint(to, from, n, a.len()) {
         return;
     }
-    let mut q = 0;
-    while 64 <= n - q {
-        mix_part(a, to + q, from + q, 64, c);
-        q += 64;
-    }
-    if q < n {
-        mix_rest(a, to + q, from + q, n - q, c);
+    let q = mix_blocks::<64>(a, to, from, n, c);
+    let r = q + mix_blocks::<16>(a, to + q, from + q, n - q, c);
+    if r < n {
+        mix_part(a, to + r, from + r, n - r, c);
     }
 }
 
-// The same of bytes which are there and apart, 16 at a time: runs of prepared stripes are often short.
-fn mix_rest(a: &mut [u8], to: usize, from: usize, n: usize, c: u8)
-    requires { (disjoint to from n (length a.old) ≡ true) × (n ≤ 64) }
-    ensures { a.new ≡ within (λ (x y : ℕ). x ⊕ c ⊗ y) to from n a.old }
+// The same of the whole blocks of N bytes, and how many bytes they are. Blocks of 16 too: runs of prepared stripes are often short.
+fn mix_blocks<const N: usize>(a: &mut [u8], to: usize, from: usize, n: usize, c: u8) -> usize
+    requires { (disjoint to from n (length a.old) ≡ true) × ((0 < N) × (N ≤ 64)) }
+    ensures done { result ≡ n / N * N }
+    ensures bytes { a.new ≡ within (λ (x y : ℕ). x ⊕ c ⊗ y) to from result a.old }
 {
-    let mut q = 0;
-    while 16 <= n - q {
-        mix_part(a, to + q, from + q, 16, c);
-        q += 16;
+    for b in 0..n / N {
+        mix_part(a, to + b * N, from + b * N, N, c);
     }
-    if q < n {
-        mix_part(a, to + q, from + q, n - q, c);
-    }
+    n / N * N
 }
 
 // The same of at most 64 bytes, which are there and apart.
@@ -61,26 +55,16 @@ fn mix_part(a: &mut [u8], to: usize, from: usize, n: usize, c: u8)
 fn by_doubling(t: &mut [u8; 64], c: u8) -> u8
     ensures { Halved c result t.old t.new }
 {
-    if !is_power(c) {
+    if !c.is_power_of_two() {
         return c;
     }
     let zero = [0u8; 64];
     let mut k = c;
     while k % 2 == 0 {
         double_add(t, &zero);
-        k = k / 2;
+        k /= 2;
     }
     k
-}
-
-// Whether c is a power of two.
-fn is_power(c: u8) -> bool
-    ensures { result ≡ true → 0 < c }
-{
-    if c < 1 {
-        return false;
-    }
-    c & (c - 1) == 0
 }
 
 // Whether the n places from `to` on and those from `from` on are all of len, and apart.

@@ -7,28 +7,24 @@ use mathlib.Core.Logic.{◌⊎◌, inl, inr}
 use native.Mathlib.Nat.{eq-or-lt_of_le}
 use native.Mathlib.Numerals.{add-one}
 use native.Mathlib.Omega.{arith}
-use lib.Dec.{leb, ltb, eqb}
+use lib.Dec.{leb, ltb}
 use lib.ListN.{length, get_or}
-use borrow.Author.Tests.{leb-true, ltb-true, ltb-false, eqb-true, eqb-false}
-use Rattle.stripe.specs.declared.Shape.{Shape}
+use borrow.Author.Tests.{leb-true, ltb-true, ltb-false}
 use Rattle.stripe.specs.Shape.{columns, stripe_length}
 use Rattle.stripe.specs.Stripe.{among, Ascending}
 use Rattle.stripe.proofs.Allowed.{Allowed}
 use Rattle.stripe.proofs.Lost.{not_among, among_other, among_first}
-use Rattle.number.specs.declared.Number.{Number}
-use Rattle.number.specs.declared.Number.TheVariants.{Value, Cut, Malformed}
-use Rattle.record.specs.declared.read.Verdict.TheVariants.{Lawful, Refused}
-use Rattle.number.specs.Number.{number_at, number_refusal, groups_at, value_of, next_of}
+use Rattle.number.specs.Number.{Standing, Value, Cut, Malformed, number_at, number_refusal, groups_at, value_of, next_of}
 use Rattle.record.specs.Layout.{kept}
 use Rattle.record.specs.Reading.{unless, fourth_number, count_number, shape_read, count_of, lost_listed, columns_start, head_refusal, position_refusal}
-use Rattle.record.specs.Reading.{positions_refusal, positions_at, after_positions, columns_refusal, rest_refusal, content_refusal, verdict_of}
+use Rattle.record.specs.Reading.{positions_refusal, positions_at, after_positions, columns_refusal, rest_refusal, content_refusal}
 use Rattle.number.proofs.Groups.{View, view, ended, last, more, onto_value}
 use Rattle.number.proofs.Written.{limited_value}
 use Rattle.record.proofs.Refusals.{first_zero, head_described, described}
 
 -- ---- a number that was read
 
-pub number_is : (g : Number) → number_refusal g ≡ 0 → g ≡ Value (value_of g) (next_of g)
+pub number_is : (g : Standing) → number_refusal g ≡ 0 → g ≡ Value (value_of g) (next_of g)
 number_is (Value v next) e = refl
 number_is Cut e = absurd (omega arith)
 number_is Malformed e = absurd (omega arith)
@@ -54,7 +50,7 @@ pub unless-zero : (b : Bool) (x : ℕ) → 0 < x → unless b x ≡ 0 → b ≡ 
 unless-zero true x h e = refl
 unless-zero false x h e = absurd (omega arith)
 
-pub position_zero : (g : Number) (least n : ℕ) → position_refusal g least n ≡ 0 → (number_refusal g ≡ 0) × (least ≤ value_of g) × (value_of g < n)
+pub position_zero : (g : Standing) (least n : ℕ) → position_refusal g least n ≡ 0 → (number_refusal g ≡ 0) × (least ≤ value_of g) × (value_of g < n)
 position_zero g least n e =
     let a = first_zero _ _ e in
     let b = (and-eq-true_iff _ _).0 (unless-zero _ 6 (omega arith) (first_zero _ _ a.1).0) in
@@ -165,25 +161,3 @@ accepted s e =
       within = positions_within s (columns (shape_read s)) (count_of s) 0 (next_of (count_number s)) p.0 (next_within s (next_of (fourth_number s)) m.0);
       exact = columns-zero _ _ c;
     }
-
--- a verdict tells the refusal
-pub lawful_says : (s : List ℕ) (sh : Shape) (m f e : ℕ) → Lawful sh m f e ≡ verdict_of s
-    → (content_refusal s ≡ 0) × (sh ≡ shape_read s) × (m ≡ count_of s) × (f ≡ next_of (count_number s)) × (e ≡ columns_start s)
-lawful_says s sh m f e q = go (eqb (content_refusal s) 0) refl q
-  where
-    go : (b : Bool) → eqb (content_refusal s) 0 ≡ b
-        → Lawful sh m f e ≡ cond b (Lawful (shape_read s) (count_of s) (next_of (count_number s)) (columns_start s)) (Refused (content_refusal s))
-        → (content_refusal s ≡ 0) × (sh ≡ shape_read s) × (m ≡ count_of s) × (f ≡ next_of (count_number s)) × (e ≡ columns_start s)
-    go true p w = (eqb-true (content_refusal s) 0 p, cc, cc, cc, cc)
-    go false p w = absurd (let z : ◌≡◌ {A = ℕ} 0 1 = cc in omega arith)
-
-pub refused_says : (s : List ℕ) (num : ℕ) → Refused num ≡ verdict_of s → (num ≡ content_refusal s) × (num ≡ 0 → ⊥)
-refused_says s num q = go (eqb (content_refusal s) 0) refl q
-  where
-    go : (b : Bool) → eqb (content_refusal s) 0 ≡ b
-        → Refused num ≡ cond b (Lawful (shape_read s) (count_of s) (next_of (count_number s)) (columns_start s)) (Refused (content_refusal s))
-        → (num ≡ content_refusal s) × (num ≡ 0 → ⊥)
-    go true p w = absurd (let z : ◌≡◌ {A = ℕ} 0 1 = cc in omega arith)
-    go false p w =
-        let e : num ≡ content_refusal s = cc in
-        (e, λ z. eqb-false (content_refusal s) 0 p (sym e ∙ z))

@@ -9,13 +9,17 @@ use lib.ListN.{length, get_or, set}
 use borrow.Author.Tests.{leb-true}
 use Rattle.field.specs.Bytes.{over}
 use Rattle.field.proofs.Over.{over_none, over_step}
+use Rattle.std.specs.Result.{ResultUnwrapsOrElse}
+use Rattle.std.specs.declared.result.Result.{Result}
+use Rattle.std.specs.declared.result.Result.TheVariants.{Ok, Err}
 use Rattle.number.specs.declared.Number.{Number}
-use Rattle.number.specs.declared.Number.TheVariants.{Value, Cut, Malformed}
-use Rattle.number.specs.Number.{number_at, limited, groups_at, value_of, next_of}
+use Rattle.number.specs.declared.Flaw.{Flaw}
+use Rattle.number.specs.declared.Flaw.TheVariants as flaw
+use Rattle.number.specs.Number.{reported, Standing, Value, Cut, Malformed, number_at, limited, groups_at, value_of, next_of}
 use Rattle.record.specs.Reading.{positions_at}
 
 -- a number is at most 2^32-1
-limited_most : (g : Number) → value_of (limited g) ≤ 4294967295
+limited_most : (g : Standing) → value_of (limited g) ≤ 4294967295
 limited_most (Value v next) = go (leb v 4294967295) refl
   where
     go : (b : Bool) → leb v 4294967295 ≡ b → value_of (cond b (Value v next) Malformed) ≤ 4294967295
@@ -61,3 +65,11 @@ list_turn s lost m i at v h l e =
 
 pub list_done : (s lost : List ℕ) (m i at : ℕ) → m ≤ i → over lost i (positions_at s (m - i) at) ≡ lost
 list_done s lost m i at h = ap (over lost i) (positions_none s m i at h) ∙ sym (over_none lost i)
+
+-- of what is no number, the value and the place after it are 0
+pub default_is : (r : Result Number Flaw) (n : Number) (s : List ℕ) (at : ℕ) → reported r ≡ number_at s at
+    → ResultUnwrapsOrElse r (λ x. (x.value ≡ 0) × (x.next ≡ 0)) n
+    → (n.value ≡ value_of (number_at s at)) × (n.next ≡ next_of (number_at s at))
+default_is (Ok x) n s at h w = (ap (λ (y : Number). y.value) w ∙ ap value_of h, ap (λ (y : Number). y.next) w ∙ ap next_of h)
+default_is (Err flaw.Cut) n s at h w = (w.0 ∙ ap value_of h, w.1 ∙ ap next_of h)
+default_is (Err flaw.Malformed) n s at h w = (w.0 ∙ ap value_of h, w.1 ∙ ap next_of h)

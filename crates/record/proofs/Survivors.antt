@@ -4,7 +4,7 @@ use mathlib.Core.Path.{◌≡◌, refl, sym, ap, ap₂, ◌∙◌}
 use mathlib.Core.Bool.{Bool, true, false, cond}
 use mathlib.Core.Logic.{◌⊎◌, inl, inr}
 use mathlib.Core.List.{List, [], ◌∷◌, ◌++◌, append_assoc, append-nil}
-use native.Mathlib.Nat.{suc-mul, zero-add}
+use native.Mathlib.Nat.{suc-mul, zero-add, zero-mul, mul-le-mul_right}
 use native.Mathlib.Numerals.{add-one}
 use native.Mathlib.Omega.{arith}
 use lib.ListN.{length, take, drop, take-append-drop, length-drop, length-append, drop_of_length-le}
@@ -49,8 +49,12 @@ copied xs from zs to at l fits long is =
 pub left_one : (n c : ℕ) → c < n → n - c ≡ suc (n - (c + 1))
 left_one n c h = omega arith
 
-left_bytes : (n c l : ℕ) → c < n → (n - c) * l ≡ l + (n - (c + 1)) * l
-left_bytes n c l h = ap (λ (m : ℕ). m * l) (left_one n c h) ∙ suc-mul (n - (c + 1)) l ∙ omega arith
+-- where column c of n ends
+pub next_column : (c l : ℕ) → (c + 1) * l ≡ c * l + l
+next_column c l = omega arith
+
+pub column_within : (n c l : ℕ) → c < n → c * l + l ≤ n * l
+column_within n c l h = omega (arith, mul-le-mul_right {m = c + 1} {n = n} l (omega arith))
 
 kept-suc : (es : List ℕ) (c m l : ℕ) → kept es c (suc m) * l ≡ cond (among c es) 0 l + kept es (c + 1) m * l
 unfolding kept
@@ -131,24 +135,36 @@ module _ (l c m to : ℕ) (es ys xs : List ℕ) (fits : to + l ≤ length xs) wh
       ∙ ap (λ (zs : List ℕ). take to xs ++ zs) (sym (restored_kept l c m es ys (drop to xs) e))
 
 -- a turn of the loop that restores n columns
-pub restore_turn : (l n c at at' to : ℕ) (es from xs xs' : List ℕ) → c < n → to + l ≤ length xs → (among c es ≡ false → at + l ≤ length from)
-    → Passed l c es to (take l (drop at from)) at at' xs xs'
-    → take (to + l) xs' ++ restored l es (c + 1) (n - (c + 1)) (drop at' from) (drop (to + l) xs')
-    ≡ take to xs ++ restored l es c (n - c) (drop at from) (drop to xs)
-restore_turn l n c at at' to es from xs xs' h fits long w =
-    ap (λ (i : ℕ). take (to + l) xs' ++ restored l es i (n - (c + 1)) (drop at' from) (drop (to + l) xs')) (add-one c)
+pub restore_turn : (l n c at at' : ℕ) (es from xs xs' : List ℕ) → c < n → n * l ≤ length xs → (among c es ≡ false → at + l ≤ length from)
+    → Passed l c es (c * l) (take l (drop at from)) at at' xs xs'
+    → take ((c + 1) * l) xs' ++ restored l es (c + 1) (n - (c + 1)) (drop at' from) (drop ((c + 1) * l) xs')
+    ≡ take (c * l) xs ++ restored l es c (n - c) (drop at from) (drop (c * l) xs)
+restore_turn l n c at at' es from xs xs' h all long w =
+    ap (λ (to : ℕ). take to xs' ++ restored l es (c + 1) (n - (c + 1)) (drop at' from) (drop to xs')) (next_column c l)
+    ∙ ap (λ (i : ℕ). take (c * l + l) xs' ++ restored l es i (n - (c + 1)) (drop at' from) (drop (c * l + l) xs')) (add-one c)
     ∙ go w
-    ∙ ap (λ (m : ℕ). take to xs ++ restored l es c m (drop at from) (drop to xs)) (sym (left_one n c h))
+    ∙ ap (λ (m : ℕ). take (c * l) xs ++ restored l es c m (drop at from) (drop (c * l) xs)) (sym (left_one n c h))
   where
-    go : Passed l c es to (take l (drop at from)) at at' xs xs' → Turn l c (n - (c + 1)) to es (drop at from) xs fits (drop at' from) xs'
+    fits : c * l + l ≤ length xs
+    fits = omega (arith, column_within n c l h)
+
+    go : Passed l c es (c * l) (take l (drop at from)) at at' xs xs' → Turn l c (n - (c + 1)) (c * l) es (drop at from) xs fits (drop at' from) xs'
     go (inl v) =
-        ap₂ (λ (i : ℕ) (us : List ℕ). take (to + l) us ++ restored l es (suc c) (n - (c + 1)) (drop i from) (drop (to + l) us)) v.1.0 v.1.1
-        ∙ turn_lost l c (n - (c + 1)) to es (drop at from) xs fits v.0
+        ap₂ (λ (i : ℕ) (us : List ℕ). take (c * l + l) us ++ restored l es (suc c) (n - (c + 1)) (drop i from) (drop (c * l + l) us)) v.1.0 v.1.1
+        ∙ turn_lost l c (n - (c + 1)) (c * l) es (drop at from) xs fits v.0
     go (inr v) =
-        ap₂ (λ (i : ℕ) (us : List ℕ). take (to + l) us ++ restored l es (suc c) (n - (c + 1)) (drop i from) (drop (to + l) us)) v.1.0 v.1.1
-        ∙ ap (λ (us : List ℕ). take (to + l) (sets xs to (take l (drop at from)))
-        ++ restored l es (suc c) (n - (c + 1)) us (drop (to + l) (sets xs to (take l (drop at from))))) (sym (drop-drop l at from))
-        ∙ turn_kept l c (n - (c + 1)) to es (drop at from) xs fits v.0 (omega (arith, length-drop at from, long v.0))
+        ap₂ (λ (i : ℕ) (us : List ℕ). take (c * l + l) us ++ restored l es (suc c) (n - (c + 1)) (drop i from) (drop (c * l + l) us)) v.1.0 v.1.1
+        ∙ ap (λ (us : List ℕ). take (c * l + l) (sets xs (c * l) (take l (drop at from)))
+        ++ restored l es (suc c) (n - (c + 1)) us (drop (c * l + l) (sets xs (c * l) (take l (drop at from))))) (sym (drop-drop l at from))
+        ∙ turn_kept l c (n - (c + 1)) (c * l) es (drop at from) xs fits v.0 (omega (arith, length-drop at from, long v.0))
+
+pub all_left : (n : ℕ) → n - 0 ≡ n
+all_left n = omega arith
+
+pub restore_start : (l n : ℕ) (es from xs : List ℕ) → take (0 * l) xs ++ restored l es 0 (n - 0) from (drop (0 * l) xs) ≡ restored l es 0 n from xs
+restore_start l n es from xs =
+    ap (λ (to : ℕ). take to xs ++ restored l es 0 (n - 0) from (drop to xs)) (zero-mul l)
+    ∙ ap (λ (m : ℕ). restored l es 0 m from xs) (all_left n)
 
 pub restore_done : (l n c to at : ℕ) (es from xs : List ℕ) → n ≤ c → take to xs ++ restored l es c (n - c) (drop at from) (drop to xs) ≡ xs
 unfolding restored
@@ -156,35 +172,21 @@ restore_done l n c to at es from xs h =
     let p : n - c ≡ 0 = omega arith in
     ap (λ (m : ℕ). take to xs ++ restored l es c m (drop at from) (drop to xs)) p ∙ take-append-drop to xs
 
--- ---- the walk through a stripe of len bytes and a record's columns in a list of room bytes
+-- ---- the walk through a stripe's columns, and through a record's in a list of room bytes
 
-pub all_left : (n : ℕ) → n - 0 ≡ n
-all_left n = omega arith
-
--- column c of n is next: those left begin at `to`, and the surviving ones among them at `at`
-pub record Walk (es : List ℕ) (l n len room c to at : ℕ) : Type 0 where
-  pub within : c ≤ n
-  pub columns : to + (n - c) * l ≤ len
+-- column c of n is next: the surviving ones among those left begin at `at`, and have their bytes
+pub record Walk (es : List ℕ) (l n room c at : ℕ) : Type 0 where
   pub surviving : at + kept es c (n - c) * l ≤ room
 
-pub walk_start : (es : List ℕ) (l n len room at : ℕ) → n * l ≤ len → at + kept es 0 n * l ≤ room → Walk es l n len room 0 0 at
-walk_start es l n len room at all some =
-    record {
-      within = omega arith;
-      columns = omega (arith, ap (λ (m : ℕ). m * l) (all_left n));
-      surviving = omega (arith, ap (λ (m : ℕ). kept es 0 m * l) (all_left n));
-    }
+pub walk_start : (es : List ℕ) (l n room at : ℕ) → at + kept es 0 n * l ≤ room → Walk es l n room 0 at
+walk_start es l n room at h = record { surviving = omega (arith, ap (λ (m : ℕ). kept es 0 m * l) (all_left n)) }
 
-module _ {es : List ℕ} {l n len room c to at : ℕ} (w : Walk es l n len room c to at) (h : c < n) where
-  pub walk_column : to + l ≤ len
-  walk_column = omega (arith, w.columns, left_bytes n c l h)
-
+module _ {es : List ℕ} {l n room c at : ℕ} (w : Walk es l n room c at) (h : c < n) where
   pub walk_survivor : among c es ≡ false → at + l ≤ room
   walk_survivor = kept_room es n c l at room h w.surviving
 
-  pub walk_turn : (p at' : ℕ) (zs xs xs' : List ℕ) → Passed l c es p zs at at' xs xs' → Walk es l n len room (c + 1) (to + l) at'
-  walk_turn p at' zs xs xs' v =
-      record { within = omega arith; columns = omega (arith, w.columns, left_bytes n c l h); surviving = omega (arith, w.surviving, left v) }
+  pub walk_turn : (p at' : ℕ) (zs xs xs' : List ℕ) → Passed l c es p zs at at' xs xs' → Walk es l n room (c + 1) at'
+  walk_turn p at' zs xs xs' v = record { surviving = omega (arith, w.surviving, left v) }
     where
       left : Passed l c es p zs at at' xs xs' → at' + kept es (c + 1) (n - (c + 1)) * l ≡ at + kept es c (n - c) * l
       left (inl g) =

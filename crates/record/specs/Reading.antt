@@ -1,18 +1,17 @@
 -- Reading a record front to back (document 01, 'Refusal numbers'): each number as it comes, after the fourth the shape and the stripe's
 -- length, then the lost count and positions, then the columns. Of what cannot be read the value is 0.
 use Rattle.std.specs.Prelude.{ℕ, zero, suc, ◌+◌, ◌-◌, ◌*◌, Bool, cond, ◌&&◌, List, [], ◌∷◌, leb, ltb, eqb, length, drop}
+use Rattle.std.specs.declared.result.Result.{Result}
+use Rattle.std.specs.declared.result.Result.TheVariants.{Ok, Err}
 use Rattle.field.specs.Bytes.{over}
 use Rattle.stripe.specs.declared.Shape.{Shape}
 use Rattle.stripe.specs.Shape.{shape_refusal, columns, stripe_length, no_shape}
-use Rattle.number.specs.declared.Number.{Number}
-use Rattle.record.specs.declared.read.Got.{Got}
+use Rattle.stripe.specs.declared.refusal.Refusal.{Refusal}
+use Rattle.stripe.specs.Refusal.{refusal_number}
+use Rattle.record.specs.declared.read.Read.{Read}
 use Rattle.record.specs.declared.read.Head.{Head}
-use Rattle.record.specs.declared.read.Head.TheVariants.{Shaped, Unshaped}
-use Rattle.record.specs.declared.read.Listed.{Listed}
-use Rattle.record.specs.declared.read.Listed.TheVariants.{Upto, Unlisted}
-use Rattle.record.specs.declared.read.Verdict.{Verdict}
-use Rattle.record.specs.declared.read.Verdict.TheVariants.{Lawful, Refused}
-use Rattle.number.specs.Number.{number_at, number_refusal, value_of, next_of}
+use Rattle.record.specs.declared.read.Lawful.{Lawful}
+use Rattle.number.specs.Number.{Standing, number_at, number_refusal, value_of, next_of}
 use Rattle.record.specs.Layout.{restored}
 
 -- the first refusal of several, 0 where there is none
@@ -26,19 +25,19 @@ abbrev pub unless : Bool → ℕ → ℕ
 unless b x = cond b 0 x
 
 -- the four numbers of the shape, and the lost count, each after the one before
-abbrev pub first_number : List ℕ → Number
+abbrev pub first_number : List ℕ → Standing
 first_number s = number_at s 0
 
-abbrev pub second_number : List ℕ → Number
+abbrev pub second_number : List ℕ → Standing
 second_number s = number_at s (next_of (first_number s))
 
-abbrev pub third_number : List ℕ → Number
+abbrev pub third_number : List ℕ → Standing
 third_number s = number_at s (next_of (second_number s))
 
-abbrev pub fourth_number : List ℕ → Number
+abbrev pub fourth_number : List ℕ → Standing
 fourth_number s = number_at s (next_of (third_number s))
 
-abbrev pub count_number : List ℕ → Number
+abbrev pub count_number : List ℕ → Standing
 count_number s = number_at s (next_of (fourth_number s))
 
 abbrev pub shape_read : List ℕ → Shape
@@ -60,7 +59,7 @@ head_refusal s =
     ∷ [])
 
 -- the refusal of what is read as a position: no number, or not at least `least` and below n
-abbrev pub position_refusal : Number → ℕ → ℕ → ℕ
+abbrev pub position_refusal : Standing → ℕ → ℕ → ℕ
 position_refusal g least n = first_of (number_refusal g ∷ unless (leb least (value_of g) && ltb (value_of g) n) 6 ∷ [])
 
 -- each of m positions in turn, each above the one before
@@ -83,7 +82,7 @@ abbrev pub columns_refusal : ℕ → ℕ → ℕ
 columns_refusal have want = cond (ltb have want) 9 (unless (leb have want) 10)
 
 -- the refusal of what follows the shape: the lost count g, then its positions, then the columns
-abbrev pub rest_refusal : List ℕ → Shape → Number → ℕ
+abbrev pub rest_refusal : List ℕ → Shape → Standing → ℕ
 rest_refusal s sh g =
     first_of (number_refusal g
     ∷ unless (leb (value_of g) (columns sh)) 6
@@ -110,6 +109,16 @@ unfoldable pub read_refusal : List ℕ → ℕ → ℕ → ℕ
 read_refusal s stripeRoom lostRoom =
     first_of (unless (leb (length s) 65536) 5 ∷ unless (eqb stripeRoom 65536) 5 ∷ unless (eqb lostRoom 258) 5 ∷ content_refusal s ∷ [])
 
+-- what reading reports: 0, the shape and the number of lost columns; or a refusal, and zeros
+pub record Got : Type 0 where
+  pub number : ℕ
+  pub shape : Shape
+  pub lost : ℕ
+
+abbrev pub reported : Result Read Refusal → Got
+reported (Ok x) = record { number = 0; shape = x.shape; lost = x.lost }
+reported (Err e) = record { number = refusal_number e; shape = no_shape; lost = 0 }
+
 -- what reading reports: the shape and the number lost, or a refusal
 abbrev pub got_of : List ℕ → ℕ → ℕ → Got
 got_of s stripeRoom lostRoom =
@@ -130,19 +139,9 @@ stripe_read s xs lostRoom = cond (eqb (read_refusal s (length xs) lostRoom) 0) (
 abbrev pub lost_read : List ℕ → ℕ → List ℕ → List ℕ
 lost_read s stripeRoom es = cond (eqb (read_refusal s stripeRoom (length es)) 0) (positions_filled s es) es
 
--- the answers of the functions that judge: what was read, or the refusal
-abbrev pub head_of : List ℕ → Head
-head_of s = cond (eqb (head_refusal s) 0) (Shaped (shape_read s) (next_of (fourth_number s))) (Unshaped (head_refusal s))
+-- what the functions that judge read: the shape and the place after it, and a lawful record
+abbrev pub head_read : List ℕ → Head
+head_read s = record { shape = shape_read s; next = next_of (fourth_number s) }
 
-abbrev pub listed_of : List ℕ → ℕ → ℕ → ℕ → Listed
-listed_of s n m at = cond (eqb (positions_refusal s n m 0 at) 0) (Upto (after_positions s m at)) (Unlisted (positions_refusal s n m 0 at))
-
-abbrev pub rest_of : List ℕ → Shape → Number → Verdict
-rest_of s sh g =
-    cond (eqb (rest_refusal s sh g) 0) (Lawful sh (value_of g) (next_of g) (after_positions s (value_of g) (next_of g)))
-    (Refused (rest_refusal s sh g))
-
-abbrev pub verdict_of : List ℕ → Verdict
-verdict_of s =
-    cond (eqb (content_refusal s) 0) (Lawful (shape_read s) (count_of s) (next_of (count_number s)) (columns_start s))
-    (Refused (content_refusal s))
+abbrev pub lawful_of : List ℕ → Lawful
+lawful_of s = record { shape = shape_read s; lost = count_of s; first = next_of (count_number s); end = columns_start s }

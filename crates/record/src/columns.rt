@@ -11,17 +11,13 @@ pub(crate) fn fill_columns(from: &[u8], l: usize, n: usize, lost: &[u16], stripe
     requires l_in_bounds_2 { kept lost.now 0 n * l ≤ length from.now }
     ensures { stripe.new ≡ restored l lost.now 0 n from.now stripe.old }
 {
-    let mut c = 0;
     let mut at = 0;
-    let mut to = 0;
-    while c < n {
-        let next = to + l;
+    for c in 0..n {
         if !is_lost(lost, c) {
+            let to = c * l;
             let end = at + l;
-            copy(&mut stripe[to..next], &from[at..end]);
+            copy(&mut stripe[to..to + l], &from[at..end]);
             at = end;
         }
-        to = next;
-        c += 1;
     }
 }

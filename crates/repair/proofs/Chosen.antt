@@ -10,11 +10,9 @@ use native.Mathlib.Omega.{arith}
 use lib.Dec.{ltb, eqb}
 use lib.ListN.{length, get_or, set, take, drop, length-append, length-set, drop_of_length-le}
 use lib.Seq.{drop-cons, take-suc-set, take_all, length-take-le, append_snoc, ext_get_or, get_or-take}
-use borrow.Rule.Slice.PartMut.{mid_of, put_mid, post_of, Post-is, mid_len}
+use borrow.Rule.Slice.PartMut.{put_mid, post_of, Post-is}
 use borrow.Author.Tests.{ltb-true, lt-ltb, eqb-true, eqb-false}
 use Rattle.field.proofs.Cases.{below_or_from, and_left, and_right}
-use Rattle.lanes.specs.Lanes.{onto}
-use Rattle.lanes.proofs.Onto.{onto_at, onto-length}
 use Rattle.stripe.specs.Stripe.{among, Ascending}
 use Rattle.stripe.proofs.Lost.{not_among, among_turn, among_found}
 use Rattle.equations.specs.Chosen.{survivors}
@@ -184,26 +182,15 @@ module _ (n : ℕ) (es : List ℕ) (c v m : ℕ) (out : List ℕ) (w : Walked n 
 
 pub computed_made : (es ss out xs : List ℕ) (n : ℕ) → length out ≡ n → n ≡ length es + length ss
     → ((i : ℕ) → i < length es → get_or out i 0 ≡ get_or es i 0)
-    → xs ≡ onto (λ (x y : ℕ). y) (mid_of (length es) (n - length es) out) ss → put_mid (length es) (n - length es) out xs ≡ es ++ ss
+    → xs ≡ ss → put_mid (length es) (n - length es) out xs ≡ es ++ ss
 computed_made es ss out xs n long all first is =
-    ap₂ (λ (l m : List ℕ). l ++ (xs ++ m)) front none ∙ ap (λ (l : List ℕ). es ++ l) (append-nil xs ∙ second)
+    ap₂ (λ (l m : List ℕ). l ++ (xs ++ m)) front none ∙ ap (λ (l : List ℕ). es ++ l) (append-nil xs ∙ is)
   where
     front_long : length (take (length es) out) ≡ length es
     front_long = length-take-le (length es) out (omega arith)
 
     front : take (length es) out ≡ es
     front = ext_get_or 0 _ es front_long (λ i h. get_or-take (length es) out i 0 (omega (arith, front_long)) ∙ first i (omega (arith, front_long)))
-
-    part : length (mid_of (length es) (n - length es) out) ≡ length ss
-    part = mid_len (length es) n out (omega arith) ∙ omega arith
-
-    xs_long : length xs ≡ length ss
-    xs_long = ap length is ∙ onto-length _ _ ss ∙ part
-
-    second : xs ≡ ss
-    second =
-        ext_get_or 0 xs ss xs_long
-        (λ i h. ap (λ (l : List ℕ). get_or l i 0) is ∙ onto_at (λ (x y : ℕ). y) _ ss i (omega (arith, part, xs_long)) (omega (arith, xs_long)))
 
     none : post_of (length es) (n - length es) out ≡ []
     none = Post-is (length es) n out (omega arith) ∙ drop_of_length-le out {i = n} (omega arith)

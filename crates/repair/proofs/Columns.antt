@@ -10,7 +10,7 @@ use borrow.Rule.Slice.PartMut.{mid_of, put_mid}
 use Rattle.field.specs.Field.{◌⊕◌}
 use Rattle.field.proofs.Cases.{below_or_from}
 use Rattle.lanes.specs.Lanes.{onto}
-use Rattle.lanes.proofs.Parts.{part_length, part_at}
+use Rattle.lanes.proofs.Parts.{part_length, part_at, back_length, back_inside, back_outside}
 use Rattle.stripe.proofs.Places.{place_lt, column_inside}
 use Rattle.matrix.specs.Sums.{Part}
 use Rattle.matrix.proofs.Parts.{part_onto}
@@ -83,8 +83,7 @@ put_start f ts l a b xs = record { long = refl; own = λ v p h k m. absurd (not-
 -- one column more
 pub put_turn : (rs ts : List ℕ) (l at n : ℕ) (xs ys part : List ℕ) (v : ℕ) → v < length ts → Distinct ts → at + n ≤ l → length rs ≡ length ts * n
     → get_or ts v 0 * l + at + n ≤ length xs → Put (λ u p. get_or rs (u * n + (p - at)) 0) ts v l at (at + n) xs ys
-    → part ≡ onto (λ (x y : ℕ). y) (mid_of (get_or ts v 0 * l + at) (get_or ts v 0 * l + at + n - (get_or ts v 0 * l + at)) ys)
-    (mid_of (v * n) (v * n + n - v * n) rs)
+    → part ≡ mid_of (v * n) (v * n + n - v * n) rs
     → Put (λ u p. get_or rs (u * n + (p - at)) 0) ts (v + 1) l at (at + n) xs
     (put_mid (get_or ts v 0 * l + at) (get_or ts v 0 * l + at + n - (get_or ts v 0 * l + at)) ys part)
 put_turn rs ts l at n xs ys part v hv apart ends long fits h is = record { long = p.long ∙ h.long; own = own; other = other }
@@ -98,10 +97,17 @@ put_turn rs ts l at n xs ys part v hv apart ends long fits h is = record { long 
     inside : v * n + n ≤ length rs
     inside = omega (arith, column_inside v (length ts) n hv)
 
+    part_long : length part ≡ n
+    part_long = ap length is ∙ part_length rs (v * n) n inside
+
     p : Part (λ (x y : ℕ). y) ys o n (mid_of (v * n) (v * n + n - v * n) rs) (put_mid o (o + n - o) ys part)
     p =
-        part_onto (λ (x y : ℕ). y) ys (mid_of (v * n) (v * n + n - v * n) rs) part o n (omega (arith, h.long)) (omega (arith, part_length rs (v * n) n inside))
-        is
+        let long_enough : o + n ≤ length ys = omega (arith, h.long) in
+        record {
+          long = back_length ys part o n part_long long_enough;
+          inside = λ q k. back_inside ys part o n part_long long_enough q k ∙ ap (λ (xs : List ℕ). get_or xs q 0) is;
+          outside = back_outside ys part o n part_long long_enough;
+        }
 
     own : (u q : ℕ) → u < v + 1 → at ≤ q → q < at + n → column_byte ts new l u q ≡ get_or rs (u * n + (q - at)) 0
     own u q hu from to = ⊎_elim old this (below_or_from u v)

@@ -4,10 +4,9 @@ use mathlib.Core.Path.{◌≡◌, refl, sym, ap, ap₂, ◌∙◌, subst}
 use mathlib.Core.Bool.{Bool, true}
 use mathlib.Core.Logic.{◌⊎◌, inl, inr, ⊎_elim}
 use mathlib.Core.List.{List, [], ◌∷◌, map}
-use native.Mathlib.Nat.{not-suc-le-zero, mul-le-mul_left}
+use native.Mathlib.Nat.{not-suc-le-zero}
 use native.Mathlib.Omega.{arith}
 use lib.ListN.{length, get_or}
-use borrow.Rule.Slice.PartMut.{mid_of, mid_len}
 use Rattle.field.specs.Field.{◌⊕◌}
 use Rattle.field.proofs.Xor.{add_self}
 use Rattle.field.proofs.Powers.{sum_zero}
@@ -103,28 +102,6 @@ module _ (ws cs ts xs ms : List ℕ) (l at n : ℕ) (h : Lent ws cs ts l (length
 
 -- ---- one window more
 
-pub room_for : (rows step n : ℕ) → n ≤ step → rows * step ≤ 2048 → rows * n ≤ 2048
-room_for rows step n h k = omega (arith, mul-le-mul_left rows h)
-
--- the lesser of a step and of what is left is something
-least_some : (step left n : ℕ) → 64 ≤ step → 1 ≤ left → (step ≤ n) ⊎ (left ≤ n) → 1 ≤ n
-least_some step left n h k (inl a) = omega arith
-least_some step left n h k (inr a) = omega arith
-
--- the window of a turn, whose buffer is the front of a greater one
-pub window_of : (ts ms : List ℕ) (l at n step : ℕ) → 1 ≤ length ts → at < l → 64 ≤ step → n ≤ l - at → (step ≤ n) ⊎ (l - at ≤ n)
-    → length ts * n ≤ length ms → Window ts l at n (length (mid_of 0 (length ts * n - 0) ms))
-window_of ts ms l at n step some more long left lesser room =
-    record {
-      rows_some = some;
-      places_some = least_some step (l - at) n long (omega arith) lesser;
-      ends = omega arith;
-      room = mid_len 0 (length ts * n) ms room ∙ omega arith;
-    }
-
-pub lent_as : (ws cs ts : List ℕ) (l d d' : ℕ) → d' ≡ d → Lent ws cs ts l d → Lent ws cs ts l d'
-lent_as ws cs ts l d d' e h = subst (Lent ws cs ts l) (sym e) h
-
 module _ (f : ℕ → ℕ → ℕ) (ts : List ℕ) (l : ℕ) (xs : List ℕ) where
   pub holds_none : Holds f ts l 0 0 xs
   holds_none = record { own = λ v p h from to. absurd (not-suc-le-zero to) }
@@ -138,17 +115,7 @@ module _ (f : ℕ → ℕ → ℕ) (ts : List ℕ) (l : ℕ) (xs : List ℕ) whe
   pub holds_all : (a : ℕ) → l ≤ a → Holds f ts l 0 a xs → Holds f ts l 0 l xs
   holds_all a h g = record { own = λ v p hv from to. g.own v p hv from (omega arith) }
 
-  -- no column is always as it is computed
-  pub holds_empty : length ts < 1 → Holds f ts l 0 l xs
-  holds_empty h = record { own = λ v p hv from to. absurd (omega arith) }
-
 module _ (f : ℕ → ℕ → ℕ) (ts : List ℕ) (l : ℕ) (xs : List ℕ) where
-  pub put_none : Put f ts (length ts) l 0 0 xs xs
-  put_none = record { long = refl; own = λ v p h from to. absurd (not-suc-le-zero to); other = λ c p h k. refl }
-
-  pub put_empty : length ts < 1 → Put f ts (length ts) l 0 l xs xs
-  put_empty h = record { long = refl; own = λ v p hv from to. absurd (omega arith); other = λ c p h k. refl }
-
   pub put_all : (a : ℕ) (ys : List ℕ) → a ≡ l → Put f ts (length ts) l 0 a xs ys → Put f ts (length ts) l 0 l xs ys
   put_all a ys e g = subst (λ (b : ℕ). Put f ts (length ts) l 0 b xs ys) e g
 

@@ -5,8 +5,6 @@ ghost use Rattle.stripe.specs.Stripe.{Ascending};
 ghost use Rattle.equations.specs.Chosen.{survivors};
 ghost use Rattle.repair.specs.Windows.{next_is};
 
-use lanes::copy;
-
 // The positions that survive, of those below the number of all.
 pub(crate) fn survive(lost: &[usize], out: &mut [u8])
     requires { (length out.old + length lost.now ≤ 255) × Ascending 0 (length out.old + length lost.now) lost.now }
@@ -15,15 +13,13 @@ pub(crate) fn survive(lost: &[usize], out: &mut [u8])
     let n = out.len() + lost.len();
     let mut v = 0;
     let mut m = 0;
-    let mut c = 0;
-    while c < n {
+    for c in 0..n {
         if is_next(lost, v, c) {
             v += 1;
         } else {
             out[m] = c as u8;
             m += 1;
         }
-        c += 1;
     }
 }
 
@@ -31,10 +27,7 @@ pub(crate) fn survive(lost: &[usize], out: &mut [u8])
 fn is_next(lost: &[usize], v: usize, c: usize) -> bool
     ensures { result ≡ next_is lost.now v c }
 {
-    if lost.len() <= v {
-        return false;
-    }
-    lost[v] == c
+    lost.get(v) == Some(&c)
 }
 
 // The positions that are computed: the lost ones, then the spares.
@@ -42,12 +35,8 @@ pub(crate) fn fill_computed(lost: &[usize], spares: &[u8], out: &mut [u8])
     requires { (length out.old ≡ length lost.now + length spares.now) × Bytes lost.now }
     ensures { out.new ≡ lost.now ++ spares.now }
 {
-    let e = lost.len();
-    let n = out.len();
-    let mut v = 0;
-    while v < e {
-        out[v] = lost[v] as u8;
-        v += 1;
+    for (v, c) in lost.iter().enumerate() {
+        out[v] = *c as u8;
     }
-    copy(&mut out[e..n], spares);
+    out[lost.len()..].copy_from_slice(spares);
 }

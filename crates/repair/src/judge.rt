@@ -3,10 +3,11 @@ ghost use Rattle.std.specs.Prelude.{◌≡◌, ℕ, ◌+◌, ◌*◌, ◌<◌, �
 ghost use Rattle.repair.specs.Windows.{Says, Lent, Window, Holds, Added, row_byte};
 
 use crate::windows::places;
-use lanes::{add, all_zero, shorter};
+use lanes::{add, all_zero};
 use matrix::apply;
 
 // Whether each of these columns is what it is computed to be.
+// The loop stands in `write` too: one function for both would take a closure and a clause for it, which is longer than the loop.
 pub(crate) fn judge(
     w: &[u8],
     from: &[u8],
@@ -25,19 +26,18 @@ pub(crate) fn judge(
         return true;
     }
     let step = places(rows);
-    let mut at = 0;
-    while at < l {
-        let n = shorter(step, l - at);
+    for at in (0..l).step_by(step) {
+        let n = step.min(l - at);
         let m = rows * n;
         if !judge_window(w, from, spares, at, l, n, stripe, &mut made[0..m]) {
             return false;
         }
-        at += n;
     }
     true
 }
 
 // The same of the n places from `at` on.
+// `Lent` speaks of the stripe's length too, so a struct of the other parameters could not keep it.
 fn judge_window(
     w: &[u8],
     from: &[u8],
@@ -59,19 +59,18 @@ fn judge_window(
 }
 
 // To each row of n bytes the n bytes from `at` on of its column.
+// Its twin `put_columns` changes the stripe where this changes the rows, so they share no line but the bounds.
 fn add_columns(rows: &mut [u8], columns: &[u8], stripe: &[u8], at: usize, l: usize, n: usize)
     requires { (length rows.old ≡ length columns.now * n) × ((at + n ≤ l)
         × ((v : ℕ) → v < length columns.now → get_or columns.now v 0 * l + l ≤ length stripe.now)) }
     ensures { Added columns.now (length columns.now) l at n stripe.now rows.old
         rows.new }
 {
-    let mut v = 0;
-    while v < columns.len() {
+    for (v, c) in columns.iter().enumerate() {
         let a = v * n;
         let b = a + n;
-        let o = columns[v] as usize * l + at;
+        let o = usize::from(*c) * l + at;
         let e = o + n;
         add(&mut rows[a..b], &stripe[o..e]);
-        v += 1;
     }
 }

@@ -9,6 +9,7 @@ mod windows;
 mod write;
 
 ghost use Rattle.std.specs.Prelude.{◌≡◌, ◌+◌, ◌*◌, ◌≤◌, length, take, drop};
+ghost use Rattle.stripe.specs.Refusal.{refusal_of};
 ghost use Rattle.stripe.specs.Stripe.{ascending};
 ghost use Rattle.repair.specs.Repair.{repair_fits, repair_refusal, Repaired};
 ghost use Rattle.repair.specs.Windows.{Computing, Restores};
@@ -18,6 +19,7 @@ use crate::judge::judge;
 use crate::windows::WINDOW;
 use crate::write::write;
 use constants::{MOST_CONSTANTS, mending};
+use stripe::refusal::Refusal;
 
 // The most columns that are computed.
 const COMPUTED: usize = 16;
@@ -57,55 +59,59 @@ fn ascends(lost: &[usize], n: usize) -> bool
     ensures { result ≡ ascending 0 n lost.now }
 {
     let mut least = 0;
-    let mut v = 0;
-    while v < lost.len() {
-        let e = lost[v];
-        if e < least {
+    for e in lost {
+        if *e < least || n <= *e {
             return false;
         }
-        if n <= e {
-            return false;
-        }
-        least = e + 1;
-        v += 1;
+        least = *e + 1;
     }
     true
 }
 
 // What is refused before a byte of the stripe is looked at.
-fn refusal(k: usize, r: usize, l: usize, lost: &[usize], d: usize) -> u32
-    ensures { result ≡ repair_refusal k r l lost.now d }
+fn refusal(k: usize, r: usize, l: usize, lost: &[usize], d: usize) -> Result<(), Refusal>
+    ensures { refusal_of result ≡ repair_refusal k r l lost.now d }
 {
     if !fits(k, r, l, d) {
-        return 5;
+        return Err(Refusal::Buffer);
     }
     if !ascends(lost, k + r) {
-        return 6;
+        return Err(Refusal::Lost);
     }
     if r < lost.len() {
-        return 7;
+        return Err(Refusal::TooManyLost);
     }
-    0
+    Ok(())
 }
 
-// The stripe with its lost columns mended, and 0; or a refusal, and the stripe stays: 5, 6 or 7 for what is lent, 8 where no codeword
-// agrees with all survivors.
-pub fn repair(k: usize, r: usize, l: usize, lost: &[usize], stripe: &mut [u8]) -> u32
-    ensures { Repaired k r l lost.now stripe.old result stripe.new }
+// The stripe with its lost columns mended; or a refusal, and the stripe stays: `Buffer`, `Lost` or `TooManyLost` for what is lent,
+// `Disagrees` where no codeword agrees with all survivors.
+pub fn repair(
+    k: usize,
+    r: usize,
+    l: usize,
+    lost: &[usize],
+    stripe: &mut [u8],
+) -> Result<(), Refusal>
+    ensures { Repaired k r l lost.now stripe.old (refusal_of result) stripe.new }
 {
-    let no = refusal(k, r, l, lost, stripe.len());
-    if no != 0 {
-        return no;
-    }
+    refusal(k, r, l, lost, stripe.len())?;
     let n = r * k;
     let mut w = [0u8; MOST_CONSTANTS];
     repair_by(k, r, l, lost, &mut w[0..n], stripe)
 }
 
 // The same, with room for the weights.
-fn repair_by(k: usize, r: usize, l: usize, lost: &[usize], w: &mut [u8], stripe: &mut [u8]) -> u32
+fn repair_by(
+    k: usize,
+    r: usize,
+    l: usize,
+    lost: &[usize],
+    w: &mut [u8],
+    stripe: &mut [u8],
+) -> Result<(), Refusal>
     requires { (repair_refusal k r l lost.now (length stripe.old) ≡ 0) × (length w.old ≡ r * k) }
-    ensures { Repaired k r l lost.now stripe.old result stripe.new }
+    ensures { Repaired k r l lost.now stripe.old (refusal_of result) stripe.new }
 {
     let e = lost.len();
     let m = k + r - e;
@@ -117,21 +123,28 @@ fn repair_by(k: usize, r: usize, l: usize, lost: &[usize], w: &mut [u8], stripe:
     restore(k, w, &kept[0..m], &to[0..e], l, stripe)
 }
 
-// Of the columns kept the first k are the sources, the others spares. 0 with the columns `to` as the first rows compute them; or 8, and the
-// stripe stays, where not each of the spares is what the other rows compute.
-fn restore(k: usize, w: &[u8], kept: &[u8], to: &[u8], l: usize, stripe: &mut [u8]) -> u32
+// Of the columns kept the first k are the sources, the others spares. The columns `to` as the first rows compute them; or `Disagrees`, and
+// the stripe stays, where not each of the spares is what the other rows compute.
+fn restore(
+    k: usize,
+    w: &[u8],
+    kept: &[u8],
+    to: &[u8],
+    l: usize,
+    stripe: &mut [u8],
+) -> Result<(), Refusal>
     requires { (k ≤ length kept.now)
         × Computing w.now (take k kept.now) to.now (drop k kept.now) l (length stripe.old) }
     ensures { Restores w.now (take k kept.now) to.now (drop k kept.now) l
-        stripe.old result stripe.new }
+        stripe.old (refusal_of result) stripe.new }
 {
     let first = to.len() * k;
     let n = w.len();
     let m = kept.len();
     let mut made = [0u8; WINDOW];
     if !judge(&w[first..n], &kept[0..k], &kept[k..m], l, stripe, &mut made) {
-        return 8;
+        return Err(Refusal::Disagrees);
     }
     write(&w[0..first], &kept[0..k], to, l, stripe, &mut made);
-    0
+    Ok(())
 }

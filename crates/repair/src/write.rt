@@ -3,7 +3,6 @@ ghost use Rattle.std.specs.Prelude.{◌≡◌, ℕ, ◌+◌, ◌-◌, ◌*◌, �
 ghost use Rattle.repair.specs.Windows.{Lent, Window, Distinct, Put, row_byte};
 
 use crate::windows::places;
-use lanes::{copy, shorter};
 use matrix::apply;
 
 // Each of these columns as it is computed.
@@ -18,12 +17,10 @@ pub(crate) fn write(w: &[u8], from: &[u8], to: &[u8], l: usize, stripe: &mut [u8
         return;
     }
     let step = places(rows);
-    let mut at = 0;
-    while at < l {
-        let n = shorter(step, l - at);
+    for at in (0..l).step_by(step) {
+        let n = step.min(l - at);
         let m = rows * n;
         write_window(w, from, to, at, l, n, stripe, &mut made[0..m]);
-        at += n;
     }
 }
 
@@ -54,13 +51,11 @@ fn put_columns(rows: &[u8], columns: &[u8], stripe: &mut [u8], at: usize, l: usi
     ensures { Put (λ v p. get_or rows.now (v * n + (p - at)) 0) columns.now (length columns.now)
         l at (at + n) stripe.old stripe.new }
 {
-    let mut v = 0;
-    while v < columns.len() {
+    for (v, c) in columns.iter().enumerate() {
         let a = v * n;
         let b = a + n;
-        let o = columns[v] as usize * l + at;
+        let o = usize::from(*c) * l + at;
         let e = o + n;
-        copy(&mut stripe[o..e], &rows[a..b]);
-        v += 1;
+        stripe[o..e].copy_from_slice(&rows[a..b]);
     }
 }

@@ -61,11 +61,16 @@ step_right (suc zero) h x y l = step_1 x y l
 step_right (suc (suc zero)) h x y l = step_2 x y l
 step_right (suc (suc (suc j))) h x y l = absurd (omega arith)
 
--- the columns from number i on start within the list, with one column before them
-pub column_before : (len k l i o : ℕ) → len ≡ k * l → i ≤ k → 0 < i → o ≡ i * l → (l ≤ o) × ((o ≤ len) × (o - l ≡ (i - 1) * l))
-column_before len k l i o e h p d =
-    let q : (i - 1 + 1) * l ≡ i * l = ap (λ (x : ℕ). x * l) (omega arith) in
-    (omega (arith, mul-le-mul_right l p), (omega (arith, mul-le-mul_right l h), omega (arith, q)))
+-- where a column starts, and the one after it
+pub column_next : (x y l : ℕ) → y ≡ x + 1 → y * l ≡ x * l + l
+column_next x y l e = ap (λ (z : ℕ). z * l) e ∙ omega arith
+
+pub column_none : (x l : ℕ) → x ≡ 0 → x * l ≡ 0
+column_none x l e = ap (λ (z : ℕ). z * l) e ∙ zero-mul l
+
+-- column x of k lies in their bytes
+pub column_fits : (len k l x : ℕ) → len ≡ k * l → x < k → x * l + l ≤ len
+column_fits len k l x e h = omega (arith, mul-le-mul_right l h)
 
 -- a of w bytes holds row j of the m columns from o on, at the n places from `from` on
 pub record Held (xs : List ℕ) (l from n w j o m : ℕ) (a : List ℕ) : Type 0 where
@@ -85,36 +90,31 @@ first xs l from n w j o m a b long e h =
           ∙ sym (ap (λ (x : ℕ). row j (across xs l (from + q) o x)) e ∙ row_one j _ (b (o + (from + q))));
     }
 
--- one column more
-one_more : (xs : List ℕ) (l p j o m z : ℕ) → Bytes xs → l ≤ o → z ≡ suc m
-    → gpow j ⊗ row j (across xs l p o m) ⊕ get_or xs (o - l + p) 0 ≡ row j (across xs l p (o - l) z)
+-- one column more: the column at u, before those from o on
+one_more : (xs : List ℕ) (l p j u o m z : ℕ) → Bytes xs → o ≡ u + l → z ≡ suc m
+    → gpow j ⊗ row j (across xs l p o m) ⊕ get_or xs (u + p) 0 ≡ row j (across xs l p u z)
 unfolding across
-one_more xs l p j o m z b h e =
-    let back : o ≡ o - l + l = omega arith in
+one_more xs l p j u o m z b back e =
     add_comm _ _
-    ∙ ap (λ (x : ℕ). get_or xs (o - l + p) 0 ⊕ gpow j ⊗ row j (across xs l p x m)) back
-    ∙ sym (row_cons j (get_or xs (o - l + p) 0) (across xs l p (o - l + l) m) (b (o - l + p)))
-    ∙ ap (λ (x : ℕ). row j (across xs l p (o - l) x)) (sym e)
+    ∙ ap (λ (x : ℕ). get_or xs (u + p) 0 ⊕ gpow j ⊗ row j (across xs l p x m)) back
+    ∙ sym (row_cons j (get_or xs (u + p) 0) (across xs l p (u + l) m) (b (u + p)))
+    ∙ ap (λ (x : ℕ). row j (across xs l p u x)) (sym e)
 
-pub turn : (xs : List ℕ) (l from n w j o m z : ℕ) (a b : List ℕ) (f : ℕ → ℕ → ℕ) → Step j f → Bytes xs → n ≤ w → l ≤ o
-    → o - l + from + n ≤ length xs → z ≡ suc m → Held xs l from n w j o m a
-    → b ≡ onto f a (take (o - l + from + n - (o - l + from)) (drop (o - l + from) xs)) → Held xs l from n w j (o - l) z b
-turn xs l from n w j o m z a b f st bytes nw lo fits e h is =
+pub turn : (xs : List ℕ) (l from n w j u o s m z : ℕ) (a b : List ℕ) (f : ℕ → ℕ → ℕ) → Step j f → Bytes xs → n ≤ w → o ≡ u + l → s ≡ u + from
+    → s + n ≤ length xs → z ≡ suc m → Held xs l from n w j o m a → b ≡ onto f a (take (s + n - s) (drop s xs)) → Held xs l from n w j u z b
+turn xs l from n w j u o s m z a b f st bytes nw back here fits e h is =
     record { long = ap length is ∙ onto-length f a d ∙ h.long; at = at }
   where
-    s : ℕ
-    s = o - l + from
-
     d : List ℕ
     d = take (s + n - s) (drop s xs)
 
-    at : (q : ℕ) → q < n → get_or b q 0 ≡ row j (across xs l (from + q) (o - l) z)
+    at : (q : ℕ) → q < n → get_or b q 0 ≡ row j (across xs l (from + q) u z)
     at q p =
         ap (λ (x : List ℕ). get_or x q 0) is
         ∙ onto_at f a d q (omega (arith, h.long)) (omega (arith, part_length xs s n fits))
         ∙ ap₂ f (h.at q p) (part_at xs s n q p ∙ ap (λ (x : ℕ). get_or xs x 0) (omega arith))
         ∙ st _ _ (row_lt j (across xs l (from + q) o m))
-        ∙ one_more xs l (from + q) j o m z bytes lo e
+        ∙ one_more xs l (from + q) j u o m z bytes back e
 
 -- two columns more of row 2 at once
 four_four : 4 ⊗ 4 ≡ 16
@@ -128,20 +128,13 @@ two_steps x y z =
     ∙ ap (λ (w : ℕ). w ⊕ 4 ⊗ y ⊕ z) (mul_assoc 4 4 x)
     ∙ ap (λ (w : ℕ). w ⊕ z) (sym (mul-add 4 (4 ⊗ x) y))
 
-pub turn_two : (xs : List ℕ) (l from n w o m z : ℕ) (a b : List ℕ) → Bytes xs → n ≤ w → l ≤ o → l ≤ o - l → o - l + from + n ≤ length xs → z ≡ suc (suc m)
-    → Held xs l from n w 2 o m a
-    → b ≡ onto (λ (x v : ℕ). 16 ⊗ x ⊕ v) a (both (λ (x y : ℕ). 4 ⊗ x ⊕ y) (take (o - l + from + n - (o - l + from)) (drop (o - l + from) xs))
-    (take (o - l - l + from + n - (o - l - l + from)) (drop (o - l - l + from) xs)))
-    → Held xs l from n w 2 (o - l - l) z b
-turn_two xs l from n w o m z a b bytes nw lo lo' fits e h is =
-    record { long = ap length is ∙ onto-length (λ (x v : ℕ). 16 ⊗ x ⊕ v) a _ ∙ h.long; at = at }
+pub turn_two : (xs : List ℕ) (l from n w v u o s t m z : ℕ) (a b : List ℕ) → Bytes xs → n ≤ w → o ≡ u + l → u ≡ v + l → s ≡ u + from → t ≡ v + from
+    → s + n ≤ length xs → z ≡ suc (suc m) → Held xs l from n w 2 o m a
+    → b ≡ onto (λ (x y : ℕ). 16 ⊗ x ⊕ y) a (both (λ (x y : ℕ). 4 ⊗ x ⊕ y) (take (s + n - s) (drop s xs)) (take (t + n - t) (drop t xs)))
+    → Held xs l from n w 2 v z b
+turn_two xs l from n w v u o s t m z a b bytes nw back back' here there fits e h is =
+    record { long = ap length is ∙ onto-length (λ (x y : ℕ). 16 ⊗ x ⊕ y) a _ ∙ h.long; at = at }
   where
-    s : ℕ
-    s = o - l + from
-
-    t : ℕ
-    t = o - l - l + from
-
     d : List ℕ
     d = take (s + n - s) (drop s xs)
 
@@ -154,19 +147,19 @@ turn_two xs l from n w o m z a b bytes nw lo lo' fits e h is =
     f_long : length f ≡ n
     f_long = part_length xs t n (omega arith)
 
-    at : (q : ℕ) → q < n → get_or b q 0 ≡ row 2 (across xs l (from + q) (o - l - l) z)
+    at : (q : ℕ) → q < n → get_or b q 0 ≡ row 2 (across xs l (from + q) v z)
     at q p =
         ap (λ (x : List ℕ). get_or x q 0) is
-        ∙ onto_at (λ (x v : ℕ). 16 ⊗ x ⊕ v) a _ q (omega (arith, h.long))
+        ∙ onto_at (λ (x y : ℕ). 16 ⊗ x ⊕ y) a _ q (omega (arith, h.long))
         (omega (arith, both_long (λ (x y : ℕ). 4 ⊗ x ⊕ y) d f n (omega (arith, d_long)) (omega (arith, f_long))))
-        ∙ ap₂ (λ (x v : ℕ). 16 ⊗ x ⊕ v) (h.at q p)
+        ∙ ap₂ (λ (x y : ℕ). 16 ⊗ x ⊕ y) (h.at q p)
         (both_at (λ (x y : ℕ). 4 ⊗ x ⊕ y) d f q (omega (arith, d_long)) (omega (arith, f_long))
         ∙ ap₂ (λ (x y : ℕ). 4 ⊗ x ⊕ y) (part_at xs s n q p ∙ ap (λ (x : ℕ). get_or xs x 0) (omega arith))
         (part_at xs t n q p ∙ ap (λ (x : ℕ). get_or xs x 0) (omega arith)))
-        ∙ two_steps (row 2 (across xs l (from + q) o m)) (get_or xs (o - l + (from + q)) 0) (get_or xs (o - l - l + (from + q)) 0)
-        ∙ ap (λ (x : ℕ). 4 ⊗ x ⊕ get_or xs (o - l - l + (from + q)) 0) (step_2 _ _ (row_lt 2 _) ∙ one_more xs l (from + q) 2 o m (suc m) bytes lo refl)
+        ∙ two_steps (row 2 (across xs l (from + q) o m)) (get_or xs (u + (from + q)) 0) (get_or xs (v + (from + q)) 0)
+        ∙ ap (λ (x : ℕ). 4 ⊗ x ⊕ get_or xs (v + (from + q)) 0) (step_2 _ _ (row_lt 2 _) ∙ one_more xs l (from + q) 2 u o m (suc m) bytes back refl)
         ∙ step_2 _ _ (row_lt 2 _)
-        ∙ one_more xs l (from + q) 2 (o - l) (suc m) z bytes lo' e
+        ∙ one_more xs l (from + q) 2 v u (suc m) z bytes back' e
 
 pub done : (xs : List ℕ) (k l from n w j i o m : ℕ) (a : List ℕ) → i ≤ 0 → o ≡ i * l → m ≡ k - i → Held xs l from n w j o m a
     → RowIn xs k l from n j a
@@ -196,30 +189,30 @@ pub done3 : (xs : List ℕ) (k l from i o m : ℕ) (a b c : List ℕ) → i ≤ 
 done3 xs k l from i o m a b c z d e h =
     (done xs k l from 64 64 0 i o m a z d e h.row0, (done xs k l from 64 64 1 i o m b z d e h.row1, done xs k l from 64 64 2 i o m c z d e h.row2))
 
-module _ (xs : List ℕ) (l from o m : ℕ) (a b c a' b' c' : List ℕ) (bytes : Bytes xs) (lo : l ≤ o) (fits : o - l + from + 64 ≤ length xs)
-    (h : Held3 xs l from o m a b c) where
+module _ (xs : List ℕ) (l from u o s m : ℕ) (a b c a' b' c' : List ℕ) (bytes : Bytes xs) (back : o ≡ u + l) (here : s ≡ u + from)
+    (fits : s + 64 ≤ length xs) (h : Held3 xs l from o m a b c) where
   pub turn3 : (z : ℕ) → z ≡ suc m
-      → (a' ≡ onto (λ (x y : ℕ). x ⊕ y) a (block xs (o - l + from)))
-      × ((b' ≡ onto (λ (x y : ℕ). 2 ⊗ x ⊕ y) b (block xs (o - l + from))) × (c' ≡ onto (λ (x y : ℕ). 4 ⊗ x ⊕ y) c (block xs (o - l + from))))
-      → Held3 xs l from (o - l) z a' b' c'
+      → (a' ≡ onto (λ (x y : ℕ). x ⊕ y) a (block xs s))
+      × ((b' ≡ onto (λ (x y : ℕ). 2 ⊗ x ⊕ y) b (block xs s)) × (c' ≡ onto (λ (x y : ℕ). 4 ⊗ x ⊕ y) c (block xs s)))
+      → Held3 xs l from u z a' b' c'
   turn3 z e w =
       record {
-        row0 = turn xs l from 64 64 0 o m z a a' (λ (x y : ℕ). x ⊕ y) step_0 bytes (omega arith) lo fits e h.row0 w.0;
-        row1 = turn xs l from 64 64 1 o m z b b' (λ (x y : ℕ). 2 ⊗ x ⊕ y) step_1 bytes (omega arith) lo fits e h.row1 w.1.0;
-        row2 = turn xs l from 64 64 2 o m z c c' (λ (x y : ℕ). 4 ⊗ x ⊕ y) step_2 bytes (omega arith) lo fits e h.row2 w.1.1;
+        row0 = turn xs l from 64 64 0 u o s m z a a' (λ (x y : ℕ). x ⊕ y) step_0 bytes (omega arith) back here fits e h.row0 w.0;
+        row1 = turn xs l from 64 64 1 u o s m z b b' (λ (x y : ℕ). 2 ⊗ x ⊕ y) step_1 bytes (omega arith) back here fits e h.row1 w.1.0;
+        row2 = turn xs l from 64 64 2 u o s m z c c' (λ (x y : ℕ). 4 ⊗ x ⊕ y) step_2 bytes (omega arith) back here fits e h.row2 w.1.1;
       }
 
   -- two columns more
-  pub turn3_two : (z : ℕ) → l ≤ o - l → z ≡ suc (suc m)
-      → (a' ≡ onto (λ (x y : ℕ). x ⊕ y) (onto (λ (x y : ℕ). x ⊕ y) a (block xs (o - l + from))) (block xs (o - l - l + from)))
-      × ((b' ≡ onto (λ (x y : ℕ). 2 ⊗ x ⊕ y) (onto (λ (x y : ℕ). 2 ⊗ x ⊕ y) b (block xs (o - l + from))) (block xs (o - l - l + from)))
-      × (c' ≡ onto (λ (x v : ℕ). 16 ⊗ x ⊕ v) c (both (λ (x y : ℕ). 4 ⊗ x ⊕ y) (block xs (o - l + from)) (block xs (o - l - l + from)))))
-      → Held3 xs l from (o - l - l) z a' b' c'
-  turn3_two z lo' e w =
+  pub turn3_two : (v t z : ℕ) → u ≡ v + l → t ≡ v + from → z ≡ suc (suc m)
+      → (a' ≡ onto (λ (x y : ℕ). x ⊕ y) (onto (λ (x y : ℕ). x ⊕ y) a (block xs s)) (block xs t))
+      × ((b' ≡ onto (λ (x y : ℕ). 2 ⊗ x ⊕ y) (onto (λ (x y : ℕ). 2 ⊗ x ⊕ y) b (block xs s)) (block xs t))
+      × (c' ≡ onto (λ (x y : ℕ). 16 ⊗ x ⊕ y) c (both (λ (x y : ℕ). 4 ⊗ x ⊕ y) (block xs s) (block xs t))))
+      → Held3 xs l from v z a' b' c'
+  turn3_two v t z back' there e w =
       record {
-        row0 = turn xs l from 64 64 0 (o - l) (suc m) z _ a' (λ (x y : ℕ). x ⊕ y) step_0 bytes (omega arith) lo' (omega arith) e
-            (turn xs l from 64 64 0 o m (suc m) a _ (λ (x y : ℕ). x ⊕ y) step_0 bytes (omega arith) lo fits refl h.row0 refl) w.0;
-        row1 = turn xs l from 64 64 1 (o - l) (suc m) z _ b' (λ (x y : ℕ). 2 ⊗ x ⊕ y) step_1 bytes (omega arith) lo' (omega arith) e
-            (turn xs l from 64 64 1 o m (suc m) b _ (λ (x y : ℕ). 2 ⊗ x ⊕ y) step_1 bytes (omega arith) lo fits refl h.row1 refl) w.1.0;
-        row2 = turn_two xs l from 64 64 o m z c c' bytes (omega arith) lo lo' fits e h.row2 w.1.1;
+        row0 = turn xs l from 64 64 0 v u t (suc m) z _ a' (λ (x y : ℕ). x ⊕ y) step_0 bytes (omega arith) back' there (omega arith) e
+            (turn xs l from 64 64 0 u o s m (suc m) a _ (λ (x y : ℕ). x ⊕ y) step_0 bytes (omega arith) back here fits refl h.row0 refl) w.0;
+        row1 = turn xs l from 64 64 1 v u t (suc m) z _ b' (λ (x y : ℕ). 2 ⊗ x ⊕ y) step_1 bytes (omega arith) back' there (omega arith) e
+            (turn xs l from 64 64 1 u o s m (suc m) b _ (λ (x y : ℕ). 2 ⊗ x ⊕ y) step_1 bytes (omega arith) back here fits refl h.row1 refl) w.1.0;
+        row2 = turn_two xs l from 64 64 v u o s t m z c c' bytes (omega arith) back back' here there fits e h.row2 w.1.1;
       }

@@ -8,7 +8,7 @@ use native.Mathlib.Nat.{mod-lt}
 use native.Mathlib.Omega.{arith}
 use lib.Dec.{lit<}
 use lib.ListN.{length, get_or, take, drop, replicate, length-replicate}
-use Rattle.field.specs.Field.{◌⊕◌, ◌⊗◌}
+use Rattle.field.specs.Field.{◌⊕◌}
 use Rattle.field.specs.Bytes.{Bytes}
 use Rattle.field.specs.Row.{row}
 use Rattle.field.proofs.Cases.{below_or_from}
@@ -20,7 +20,6 @@ use Rattle.stripe.specs.Shape.{most_rows}
 use Rattle.stripe.proofs.Places.{across_bytes}
 use Rattle.rows.specs.Rows.{RowIn, Put}
 use Rattle.rows.specs.Remainder.{slot, Taken, Settled}
-use Rattle.rows.proofs.Horner.{Held3, turn3}
 use Rattle.rows.proofs.Remainder.{next, quotient, remainder, remainder_rows}
 
 abbrev xor : ℕ → ℕ → ℕ
@@ -149,22 +148,21 @@ pub start : (xs : List ℕ) (l from o n s : ℕ) → n ≡ 0 → Window xs l fro
 start xs l from o n s e q m hq hm =
     zeros 896 (slot s m * 64 + q) ∙ sym (ap (λ (x : ℕ). get_or (quotient (across xs l (from + q) o x)) m 0) e ∙ nothing xs l (from + q) o m)
 
-module _ (xs : List ℕ) (l from o n z s s' : ℕ) (w v d : List ℕ) (lo : l ≤ o) (e : z ≡ suc n) (es : s' ≡ slot s 13) (t : Taken s' d w v)
-    (d-at : (q : ℕ) → q < 64 → get_or d q 0 ≡ get_or xs (o - l + from + q) 0) (h : Window xs l from o n s w) where
+module _ (xs : List ℕ) (l from u o n z s s' : ℕ) (w v d : List ℕ) (back : o ≡ u + l) (e : z ≡ suc n) (es : s' ≡ slot s 13) (t : Taken s' d w v)
+    (d-at : (q : ℕ) → q < 64 → get_or d q 0 ≡ get_or xs (u + from + q) 0) (h : Window xs l from o n s w) where
   abbrev before : ℕ → List ℕ
   before q = quotient (across xs l (from + q) o n)
 
-  quotient_is : (q : ℕ) → quotient (across xs l (from + q) (o - l) z) ≡ next (get_or xs (o - l + (from + q)) 0) (before q) ∷ before q
+  quotient_is : (q : ℕ) → quotient (across xs l (from + q) u z) ≡ next (get_or xs (u + (from + q)) 0) (before q) ∷ before q
   unfolding across quotient
   quotient_is q =
-      let back : o - l + l ≡ o = omega arith in
-      ap (λ (x : ℕ). quotient (across xs l (from + q) (o - l) x)) e
-      ∙ ap (λ (x : ℕ). next (get_or xs (o - l + (from + q)) 0) (quotient (across xs l (from + q) x n)) ∷ quotient (across xs l (from + q) x n)) back
+      ap (λ (x : ℕ). quotient (across xs l (from + q) u x)) e
+      ∙ ap (λ (x : ℕ). next (get_or xs (u + (from + q)) 0) (quotient (across xs l (from + q) x n)) ∷ quotient (across xs l (from + q) x n)) (sym back)
 
   in_slot : (q m p : ℕ) → q < 64 → m < 14 → p ≡ slot s m → get_or w (p * 64 + q) 0 ≡ get_or (before q) m 0
   in_slot q m p hq hm ep = ap (λ (x : ℕ). get_or w (x * 64 + q) 0) ep ∙ h q m hq hm
 
-  fresh : (q : ℕ) → q < 64 → get_or v (s' * 64 + q) 0 ≡ next (get_or xs (o - l + (from + q)) 0) (before q)
+  fresh : (q : ℕ) → q < 64 → get_or v (s' * 64 + q) 0 ≡ next (get_or xs (u + (from + q)) 0) (before q)
   unfolding next
   fresh q hq =
       t.own q hq
@@ -175,7 +173,7 @@ module _ (xs : List ℕ) (l from o n z s s' : ℕ) (w v d : List ℕ) (lo : l �
   kept : (q m : ℕ) → q < 64 → m < 13 → get_or v (slot s m * 64 + q) 0 ≡ get_or (before q) m 0
   kept q m hq hm = t.others (slot s m * 64 + q) (⊎_elim (λ g. inl (omega arith)) (λ g. inr (omega arith)) (slot_other s m hm)) ∙ h q m hq (omega arith)
 
-  pub turn : Window xs l from (o - l) z s' v
+  pub turn : Window xs l from u z s' v
   turn q zero hq hm =
       ap (λ (x : ℕ). get_or v (x * 64 + q) 0) (slot-zero s' (omega (arith, slot_lt s 13))) ∙ fresh q hq
       ∙ sym (ap (λ (qs : List ℕ). get_or qs 0 0) (quotient_is q))
@@ -184,25 +182,6 @@ module _ (xs : List ℕ) (l from o n z s s' : ℕ) (w v d : List ℕ) (lo : l �
       ∙ sym (ap (λ (qs : List ℕ). get_or qs (suc m) 0) (quotient_is q))
 
 -- ---- the rows
-
--- a part by another name of its first place
-from_here : (xs : List ℕ) (s : ℕ) → take (s + 64 - s) (drop s xs) ≡ take (s + 0 + 64 - (s + 0)) (drop (s + 0) xs)
-from_here xs s =
-    let same : s ≡ s + 0 = omega arith in
-    ap (λ (x : ℕ). take (x + 64 - x) (drop x xs)) same
-
--- Horner's rule over columns of 64 places
-pub turn_here : (xs : List ℕ) (o m z : ℕ) (a b c a' b' c' : List ℕ) → Bytes xs → 64 ≤ o → o ≤ length xs → z ≡ suc m → Held3 xs 64 0 o m a b c
-    → (a' ≡ onto (λ (x y : ℕ). x ⊕ y) a (take (o - 64 + 64 - (o - 64)) (drop (o - 64) xs)))
-    × ((b' ≡ onto (λ (x y : ℕ). 2 ⊗ x ⊕ y) b (take (o - 64 + 64 - (o - 64)) (drop (o - 64) xs)))
-    × (c' ≡ onto (λ (x y : ℕ). 4 ⊗ x ⊕ y) c (take (o - 64 + 64 - (o - 64)) (drop (o - 64) xs))))
-    → Held3 xs 64 0 (o - 64) z a' b' c'
-turn_here xs o m z a b c a' b' c' bytes lo fits e h is =
-    let here = from_here xs (o - 64) in
-    turn3 xs 64 0 o m a b c a' b' c' bytes lo (omega arith) h z e (
-      is.0 ∙ ap (onto (λ (x y : ℕ). x ⊕ y) a) here,
-      (is.1.0 ∙ ap (onto (λ (x y : ℕ). 2 ⊗ x ⊕ y) b) here, is.1.1 ∙ ap (onto (λ (x y : ℕ). 4 ⊗ x ⊕ y) c) here),
-    )
 
 module _ (w v qs : List ℕ) (q : ℕ) (hq : q < 64) (st : Settled w v) (at : (m : ℕ) → m < 14 → get_or w (m * 64 + q) 0 ≡ get_or qs m 0) where
   head : get_or v (0 + q) 0 ≡ get_or qs 0 0 ⊕ get_or qs 10 0 ⊕ get_or qs 13 0

@@ -47,12 +47,11 @@ fn fourteen(w: &[u8]) -> Rows
     ensures { RowIn w.now 14 64 0 64 0 result.row0
         × (RowIn w.now 14 64 0 64 1 result.row1 × RowIn w.now 14 64 0 64 2 result.row2) }
 {
-    let mut o = 832;
-    let mut row0 = last(w, o, 64);
+    let mut row0 = last(w, 832, 64);
     let mut row1 = row0;
     let mut row2 = row0;
-    while 0 < o {
-        o = o - 64;
+    for i in (0..13).rev() {
+        let o = i * 64;
         let e = o + 64;
         one_more(&mut row0, &mut row1, &mut row2, &w[o..e]);
     }
@@ -66,14 +65,10 @@ fn wide3(data: &[u8], k: usize, l: usize, from: usize) -> Rows
         × (RowIn «data».now k l from 64 1 result.row1 × RowIn «data».now k l from 64 2 result.row2) }
 {
     let mut w = [0u8; 896];
-    let mut i = k;
-    let mut o = data.len();
     let mut s = k % 14;
-    while 0 < i {
-        i = i - 1;
-        o = o - l;
+    for i in (0..k).rev() {
         s = after(s, 13);
-        let d = last(data, o + from, 64);
+        let d = last(data, i * l + from, 64);
         take(&mut w, s, &d);
     }
     settle(&mut w);
@@ -101,11 +96,10 @@ pub(crate) fn fill_wide(data: &[u8], k: usize, l: usize, out: &mut [u8])
     requires { (length «data».now ≡ k * l) × ((0 < k) × ((64 ≤ l) × (length out.old ≡ 3 * l))) }
     ensures { RowsBelow «data».now k l 3 l out.new }
 {
-    let mut b = 0;
-    while 64 <= l - b {
-        fill_wide_block(data, k, l, b, out);
-        b += 64;
+    for c in 0..l / 64 {
+        fill_wide_block(data, k, l, c * 64, out);
     }
+    let b = l / 64 * 64;
     if b < l {
         fill_wide_block(data, k, l, l - 64, out);
     }

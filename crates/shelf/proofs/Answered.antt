@@ -4,10 +4,14 @@ use mathlib.Core.Path.{◌≡◌, refl, sym, ap, ◌∙◌}
 use mathlib.Core.Bool.{Bool, false, cond}
 use lib.Dec.{ltb, eqb}
 use borrow.Author.Tests.{ne_eqb, lt-ltb, le-ltb}
+use Rattle.std.specs.Prelude.{IsErrAnd}
+use Rattle.std.specs.declared.result.Result.{Result}
+use Rattle.std.specs.declared.result.Result.TheVariants.{Ok, Err}
 use Rattle.stripe.specs.declared.Shape.{Shape}
+use Rattle.stripe.specs.declared.refusal.Refusal.{Refusal}
+use Rattle.stripe.specs.Refusal.{refusal_number}
 use Rattle.plan.specs.Plan.{fold_refusal, columns_read}
-use Rattle.shelf.specs.Shelf.{spans_refusal, spans_written, spans_answer}
-use Rattle.shelf.specs.declared.SpansAnswer.{SpansAnswer}
+use Rattle.shelf.specs.Shelf.{SpansAnswer, reported, spans_refusal, spans_written, spans_answer}
 
 same_answer : (a b : SpansAnswer) → a.no ≡ b.no → a.spans ≡ b.spans → a ≡ b
 same_answer a b e g i = record { no = e i; spans = g i }
@@ -30,6 +34,11 @@ refused s n f room e = ap (λ (b : Bool). cond b (cond (ltb room (columns_read s
 passed : (s : Shape) (n f room : ℕ) → fold_refusal s n f ≡ 0 → spans_refusal s n f room ≡ cond (ltb room (columns_read s n f)) 5 0
 unfolding spans_refusal
 passed s n f room e = ap (λ (x : ℕ). cond (eqb x 0) (cond (ltb room (columns_read s n f)) 5 0) x) e
+
+-- a refusal handed on by `?` is reported as it is
+pub handed_answer : (r : Result ℕ Refusal) (e : Refusal) → IsErrAnd r (λ w. w ≡ e) → reported r ≡ answer (refusal_number e) 0
+handed_answer (Ok x) e h = absurd h
+handed_answer (Err w) e h = ap (λ (v : Refusal). answer (refusal_number v) 0) h
 
 -- a refused fold
 pub by_refusal : (s : Shape) (n f room c : ℕ) → c ≡ fold_refusal s n f → (c ≡ 0 → ⊥) → answer c 0 ≡ spans_answer s n f room

@@ -15,10 +15,8 @@ use Rattle.stripe.specs.Stripe.{parity}
 use Rattle.stripe.proofs.Allowed.{allowed}
 use Rattle.stripe.proofs.Lent.{lent}
 use Rattle.stripe.proofs.Places.{place_column_lt, place_byte_lt}
-use Rattle.checking.specs.declared.Wrong.{Wrong}
-use Rattle.checking.specs.declared.Wrong.TheVariants.{At}
 use Rattle.checking.specs.Compare.{agree, first_difference}
-use Rattle.checking.specs.Check.{number_of, values_of, first_wrong}
+use Rattle.checking.specs.Check.{Wrong, At, number_of, values_of, first_wrong}
 use Rattle.checking.proofs.Comparing.{first_within}
 use Rattle.checking.proofs.Where.{wrong_refused, wrong_nowhere, wrong_at}
 use Rattle.shelf.specs.Check.{column_left, place_left}

@@ -3,17 +3,14 @@ use Prim.Native.Nat.{ℕ}
 use mathlib.Core.Path.{◌≡◌, refl, sym, ap, ◌∙◌}
 use mathlib.Core.Bool.{cond}
 use mathlib.Core.Logic.{◌⊎◌, inl, inr}
-use mathlib.Core.List.{List, [], ◌∷◌}
-use native.Mathlib.Omega.{arith}
+use mathlib.Core.List.{List}
 use borrow.Author.Tests.{eq-eqb, ne_eqb}
 use lib.Dec.{eqb}
-use lib.ListN.{length, set}
+use lib.ListN.{length}
 use Rattle.field.proofs.Cases.{zero_or_not}
 use Rattle.stripe.specs.declared.Shape.{Shape}
-use Rattle.record.specs.declared.read.Got.{Got}
-use Rattle.record.specs.Reading.{read_refusal, got_of, stripe_read, lost_read}
-use Rattle.writing.specs.declared.Written.{Written}
-use Rattle.writing.specs.Writing.{write_refusal, written_of, out_written}
+use Rattle.record.specs.Reading.{Got, read_refusal, got_of, stripe_read, lost_read}
+use Rattle.writing.specs.Writing.{Written, write_refusal, written_of, out_written}
 use Rattle.shelf.specs.Records.{read_number, stripe_left, lost_left, numbers_of, numbers_left, write_number, length_left}
 
 -- the number of an answer that is told by a refusal
@@ -24,16 +21,6 @@ number_told number refusal done other d o = go (zero_or_not refusal)
     go : (refusal ≡ 0) ⊎ (refusal ≡ 0 → ⊥) → number (cond (eqb refusal 0) done other) ≡ refusal
     go (inl h) = simp (eq-eqb refusal 0 h) (d ∙ sym h)
     go (inr h) = simp (ne_eqb refusal 0 h) o
-
--- five stores fill a list of five
-pub five_set : (ns : List ℕ) (a b c d e : ℕ) → length ns ≡ 5 → set (set (set (set (set ns 0 a) 1 b) 2 c) 3 d) 4 e ≡ a ∷ b ∷ c ∷ d ∷ e ∷ []
-five_set (v ∷ w ∷ x ∷ y ∷ z ∷ []) a b c d e h = refl
-five_set [] a b c d e h = absurd (omega arith)
-five_set (v ∷ []) a b c d e h = absurd (omega arith)
-five_set (v ∷ w ∷ []) a b c d e h = absurd (omega arith)
-five_set (v ∷ w ∷ x ∷ []) a b c d e h = absurd (omega arith)
-five_set (v ∷ w ∷ x ∷ y ∷ []) a b c d e h = absurd (omega arith)
-five_set (v ∷ w ∷ x ∷ y ∷ z ∷ u ∷ us) a b c d e h = absurd (omega arith)
 
 -- ---- reading
 

@@ -1,7 +1,6 @@
 -- The check, for C: what it leaves in the two numbers that it is lent.
 use Rattle.std.specs.Prelude.{ℕ}
-use Rattle.checking.specs.declared.Wrong.{Wrong}
-use Rattle.checking.specs.declared.Wrong.TheVariants.{Nowhere, At, Refused}
+use Rattle.checking.specs.Check.{Wrong, Nowhere, At, Refused}
 
 -- the parity column that first disagrees, or what the number was
 abbrev pub column_left : Wrong → ℕ → ℕ

@@ -1,10 +1,13 @@
 -- The calls of the shelf daemon.
 use Rattle.std.specs.Prelude.{ℕ, ◌≡◌, cond, List, eqb, ltb, length}
+use Rattle.std.specs.declared.result.Result.{Result}
+use Rattle.std.specs.declared.result.Result.TheVariants.{Ok, Err}
 use Rattle.field.specs.Bytes.{over}
 use Rattle.stripe.specs.declared.Shape.{Shape}
+use Rattle.stripe.specs.declared.refusal.Refusal.{Refusal}
+use Rattle.stripe.specs.Refusal.{refusal_number}
 use Rattle.plan.specs.declared.Span.{Span}
 use Rattle.plan.specs.Plan.{fold_refusal, columns_read, plan}
-use Rattle.shelf.specs.declared.SpansAnswer.{SpansAnswer}
 
 -- the shape of the four numbers of a call
 abbrev pub shape_of : ℕ → ℕ → ℕ → ℕ → Shape
@@ -17,6 +20,15 @@ spans_refusal s n f room = cond (eqb (fold_refusal s n f) 0) (cond (ltb room (co
 -- how many spans are written
 unfoldable pub spans_written : Shape → ℕ → ℕ → ℕ → ℕ
 spans_written s n f room = cond (eqb (spans_refusal s n f room) 0) (columns_read s n f) 0
+
+-- what is answered to a call for the spans of a plan: the refusal, and how many spans are written
+pub record SpansAnswer : Type 0 where
+  pub no : ℕ
+  pub spans : ℕ
+
+abbrev pub reported : Result ℕ Refusal → SpansAnswer
+reported (Ok n) = record { no = 0; spans = n }
+reported (Err e) = record { no = refusal_number e; spans = 0 }
 
 abbrev pub spans_answer : Shape → ℕ → ℕ → ℕ → SpansAnswer
 spans_answer s n f room = record { no = spans_refusal s n f room; spans = spans_written s n f room }

@@ -5,7 +5,8 @@ ghost use Rattle.shelf.specs.Shelf.{shape_of};
 ghost use Rattle.shelf.specs.Check.{column_left, place_left};
 
 use crate::shape_of;
-use checking::{Wrong, first_wrong};
+use checking::first_wrong;
+use stripe::refusal::Refusal;
 
 // 0 for a codeword; 8, and the first parity column and place that disagree are written; or 1, 2 or 5. Else nothing is written.
 pub fn shelf_check(
@@ -25,14 +26,13 @@ pub fn shelf_check(
         ≡ place_left (first_wrong (shape_of k r t l) «data».now parity.now) place.old }
 {
     let s = shape_of(k, r, t, l);
-    let wrong = first_wrong(s, data, parity);
-    match wrong {
-        Wrong::Nowhere => 0,
-        Wrong::Refused(no) => no,
-        Wrong::At(i, p) => {
-            *column = i as u32;
-            *place = p as u32;
-            8
+    match first_wrong(s, data, parity) {
+        Ok(None) => 0,
+        Ok(Some(at)) => {
+            *column = at.column as u32;
+            *place = at.place as u32;
+            u32::from(Refusal::Disagrees)
         }
+        Err(no) => u32::from(no),
     }
 }

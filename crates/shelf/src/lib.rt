@@ -12,7 +12,8 @@ ghost use Rattle.plan.specs.Plan.{fold_refusal, columns_read, bytes_read, span_a
 ghost use Rattle.plan.specs.Plan.{columns_written, bytes_written, access_cost, conversion_bandwidth};
 ghost use Rattle.fold.specs.Fold.{fold_verdict, fold_filled};
 ghost use Rattle.mending.specs.Mend.{Mended};
-ghost use Rattle.shelf.specs.Shelf.{shape_of, spans_answer, Planned};
+ghost use Rattle.stripe.specs.Refusal.{refusal_of};
+ghost use Rattle.shelf.specs.Shelf.{shape_of, spans_answer, reported, Planned};
 
 use coding::encode::encode;
 use fold::fold;
@@ -20,6 +21,7 @@ use mending::mend;
 use plan::counts::{Bytes, Columns, bill_of, bytes_read, columns_read};
 use plan::{Span, fold_refusal, span_at};
 use stripe::Shape;
+use stripe::refusal::Refusal;
 
 // The shape of these numbers.
 pub(crate) fn shape_of(k: u64, r: u64, t: u64, l: u64) -> Shape
@@ -28,13 +30,23 @@ pub(crate) fn shape_of(k: u64, r: u64, t: u64, l: u64) -> Shape
     Shape::new(k as usize, r as usize, t as usize, l as usize)
 }
 
+// The number of an answer: 0, or its refusal's.
+fn number(answer: Result<(), Refusal>) -> u32
+    ensures { result ≡ refusal_of answer }
+{
+    match answer {
+        Ok(_) => 0,
+        Err(no) => u32::from(no),
+    }
+}
+
 // 0, and the parity of the data is filled in; or 1, 2 or 5, and nothing is written.
 pub fn shelf_encode(k: u64, r: u64, t: u64, l: u64, data: &[u8], parity: &mut [u8]) -> u32
     ensures value { result ≡ encode_refusal (shape_of k r t l) (length «data».now) (length parity.old) }
     ensures parity_after { parity.new ≡ encoded (shape_of k r t l) «data».now parity.old }
 {
     let s = shape_of(k, r, t, l);
-    encode(s, data, parity)
+    number(encode(s, data, parity))
 }
 
 // 0, and the lost columns are mended; or 1, 2, 5, 6, 7 or 8, and nothing is written.
@@ -42,7 +54,7 @@ pub fn shelf_mend(k: u64, r: u64, t: u64, l: u64, stripe: &mut [u8], lost: &[u8]
     ensures { Mended (shape_of k r t l) lost.now stripe.old result stripe.new }
 {
     let shape = shape_of(k, r, t, l);
-    mend(shape, stripe, lost)
+    number(mend(shape, stripe, lost))
 }
 
 // 0, and the parity of the wide stripe is filled in from the bytes of the plan; or 1 to 5, and nothing is written.
@@ -60,7 +72,7 @@ pub fn shelf_fold(
     ensures parity_after { parity.new ≡ fold_filled (shape_of k r t l) stripes f read.now parity.old }
 {
     let s = shape_of(k, r, t, l);
-    fold(s, stripes as usize, f as usize, read, parity)
+    number(fold(s, stripes as usize, f as usize, read, parity))
 }
 
 // 0 where these stripes can be folded; or 1 to 4.
@@ -68,7 +80,7 @@ pub fn shelf_plan_refusal(k: u64, r: u64, t: u64, l: u64, stripes: u64, f: u64) 
     ensures { result ≡ fold_refusal (shape_of k r t l) stripes f }
 {
     let s = shape_of(k, r, t, l);
-    fold_refusal(s, stripes as usize, f as usize)
+    number(fold_refusal(s, stripes as usize, f as usize))
 }
 
 // How many columns the plan reads; 0 where the fold is refused.
@@ -119,27 +131,25 @@ pub fn shelf_plan_bytes_sum(k: u64, r: u64, t: u64, l: u64, stripes: u64, f: u64
     bill_of(s, stripes as usize, f as usize).bytes.sum
 }
 
-// What is answered to a call for the spans of a plan: the refusal, and how many spans are written.
-#[derive(Clone, Copy)]
-struct SpansAnswer {
-    no: u32,
-    spans: usize,
-}
-
-// The answer for a list of so many records: 1 to 4 where the fold is refused, 5 where the plan has more spans.
-fn spans_answer(k: u64, r: u64, t: u64, l: u64, stripes: u64, f: u64, room: usize) -> SpansAnswer
-    ensures { result ≡ spans_answer (shape_of k r t l) stripes f room }
+// How many spans are written to a list of so many records; refused as the fold is, else as `Buffer` where the plan has more spans.
+fn spans_answer(
+    k: u64,
+    r: u64,
+    t: u64,
+    l: u64,
+    stripes: u64,
+    f: u64,
+    room: usize,
+) -> Result<usize, Refusal>
+    ensures { reported result ≡ spans_answer (shape_of k r t l) stripes f room }
 {
     let s = shape_of(k, r, t, l);
-    let no = fold_refusal(s, stripes as usize, f as usize);
-    if no != 0 {
-        return SpansAnswer { no: no, spans: 0 };
-    }
+    fold_refusal(s, stripes as usize, f as usize)?;
     let spans = columns_read(s, stripes as usize, f as usize).number();
     if room < spans {
-        return SpansAnswer { no: 5, spans: 0 };
+        return Err(Refusal::Buffer);
     }
-    SpansAnswer { no: 0, spans }
+    Ok(spans)
 }
 
 // Span number i of the plan.
@@ -162,12 +172,13 @@ pub fn shelf_plan_spans(
 ) -> u32
     ensures { Planned (shape_of k r t l) stripes f spans.old result spans.new }
 {
-    let answer = spans_answer(k, r, t, l, stripes, f, spans.len());
-    let n = answer.spans;
-    let mut i = 0;
-    while i < n {
-        spans[i] = plan_span(k, r, t, l, stripes, f, i);
-        i += 1;
+    match spans_answer(k, r, t, l, stripes, f, spans.len()) {
+        Ok(n) => {
+            for i in 0..n {
+                spans[i] = plan_span(k, r, t, l, stripes, f, i);
+            }
+            0
+        }
+        Err(no) => u32::from(no),
     }
-    answer.no
 }

@@ -5,7 +5,8 @@ ghost use Rattle.shelf.specs.Shelf.{shape_of};
 ghost use Rattle.shelf.specs.Records.{read_number, stripe_left, lost_left, numbers_of, numbers_left, write_number, length_left};
 
 use crate::shape_of;
-use record::read::{Got, read_record};
+use record::read::{Read, read_record};
+use stripe::refusal::Refusal;
 use writing::write_record;
 
 // 0, and the surviving columns, the lost positions and the five numbers k, r, t, l and how many are lost are filled in; or a
@@ -25,26 +26,30 @@ pub fn shelf_read_record(
         ≡ numbers_left «record».now stripe.old lost.old numbers.old }
 {
     if numbers.len() != 5 {
-        return 5;
+        return u32::from(Refusal::Buffer);
     }
-    let got = read_record(record, stripe, lost);
-    if got.number != 0 {
-        return got.number;
+    match read_record(record, stripe, lost) {
+        Ok(read) => {
+            put_numbers(read, numbers);
+            0
+        }
+        Err(no) => u32::from(no),
     }
-    put_numbers(got, numbers);
-    0
 }
 
 // The five numbers of what was read.
-fn put_numbers(got: Got, numbers: &mut [u64])
+fn put_numbers(read: Read, numbers: &mut [u64])
     requires { length_of numbers.old ≡ 5 }
-    ensures { numbers.new ≡ numbers_of got.shape got.lost }
+    ensures { numbers.new ≡ numbers_of read.shape read.lost }
 {
-    numbers[0] = got.shape.k as u64;
-    numbers[1] = got.shape.r as u64;
-    numbers[2] = got.shape.t as u64;
-    numbers[3] = got.shape.l as u64;
-    numbers[4] = got.lost as u64;
+    let s = read.shape;
+    numbers.copy_from_slice(&[
+        s.k as u64,
+        s.r as u64,
+        s.t as u64,
+        s.l as u64,
+        read.lost as u64,
+    ]);
 }
 
 // 0, and the record stands at the front of the output, whose rest stays, and its length is written; or a refusal, and nothing is.
@@ -64,10 +69,11 @@ pub fn shelf_write_record(
         ≡ length_left (shape_of k r t l) stripe.now lost.now out.old length.old }
 {
     let s = shape_of(k, r, t, l);
-    let written = write_record(s, stripe, lost, out);
-    if written.number != 0 {
-        return written.number;
+    match write_record(s, stripe, lost, out) {
+        Ok(written) => {
+            *length = written as u64;
+            0
+        }
+        Err(no) => u32::from(no),
     }
-    *length = written.length as u64;
-    0
 }

@@ -1,4 +1,4 @@
-// The steps of rows 1 and 2: loops over byte slices that multiply by 2, 4 or 16 and add, made of shifts.
+// The steps of rows 1 and 2: loops over byte slices that multiply by 2, 4 or 16 and add, made of shifts. A loop for each: `lanes` says why.
 #![tactic(auto)]
 
 ghost use Rattle.std.specs.Prelude.{◌≡◌, cond, ℕ, ◌-◌, ◌*◌, ◌<◌, eqb};
@@ -13,11 +13,8 @@ use lanes::shorter;
 pub fn double_add(a: &mut [u8], d: &[u8])
     ensures { a.new ≡ onto (λ (x y : ℕ). 2 ⊗ x ⊕ y) a.old d.now }
 {
-    let n = shorter(a.len(), d.len());
-    let mut q = 0;
-    while q < n {
+    for q in 0..shorter(a.len(), d.len()) {
         a[q] = double(a[q]) ^ d[q];
-        q += 1;
     }
 }
 
@@ -25,11 +22,8 @@ pub fn double_add(a: &mut [u8], d: &[u8])
 pub fn quadruple_add(a: &mut [u8], d: &[u8])
     ensures { a.new ≡ onto (λ (x y : ℕ). 4 ⊗ x ⊕ y) a.old d.now }
 {
-    let n = shorter(a.len(), d.len());
-    let mut q = 0;
-    while q < n {
+    for q in 0..shorter(a.len(), d.len()) {
         a[q] = double(double(a[q])) ^ d[q];
-        q += 1;
     }
 }
 
@@ -38,12 +32,9 @@ pub fn quadruple_add_two(a: &mut [u8], d: &[u8], e: &[u8])
     ensures { a.new
         ≡ onto (λ (x w : ℕ). 16 ⊗ x ⊕ w) a.old (both (λ (y z : ℕ). 4 ⊗ y ⊕ z) d.now e.now) }
 {
-    let m = shorter(d.len(), e.len());
-    let n = shorter(a.len(), m);
-    let mut q = 0;
-    while q < n {
+    let n = shorter(d.len(), e.len());
+    for q in 0..shorter(a.len(), n) {
         a[q] = sixteen_and_four(a[q], d[q]) ^ e[q];
-        q += 1;
     }
 }
 

@@ -1,3 +1,4 @@
+pub mod Refused
 pub mod Allowed
 pub mod Places
 pub mod Codewords

@@ -12,6 +12,8 @@ use lib.ListN.{length, get_or, drop, drop_of_length-le}
 use lib.Seq.{drop-cons}
 use borrow.Author.Tests.{lt-ltb, le-ltb, eq-eqb, ne_eqb}
 use Rattle.field.proofs.Cases.{below_or_from}
+use Rattle.std.specs.List.{list_any}
+use Rattle.std.specs.Prelude.{nat_eq}
 use Rattle.stripe.specs.Stripe.{among, Ascending}
 use Rattle.stripe.proofs.Survivors.{count_true, count_same, count_none, count_more}
 
@@ -49,6 +51,12 @@ not_among c a n (e ∷ es) w l =
 pub among-nil : (c : ℕ) → among c [] ≡ false
 unfolding among
 among-nil c = refl
+
+-- the library's search for the position
+pub any_among : (c : ℕ) (es : List ℕ) → list_any (λ e. nat_eq c e) es ≡ among c es
+unfolding among
+any_among c [] = refl
+any_among c (e ∷ es) = ap (λ (b : Bool). eqb c e || b) (any_among c es)
 
 pub among_other : (c e : ℕ) (es : List ℕ) → (c ≡ e → ⊥) → among c (e ∷ es) ≡ among c es
 unfolding among

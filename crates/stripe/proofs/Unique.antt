@@ -1,9 +1,10 @@
 -- Any two outcomes that a contract of this crate allows for the same arguments are equal.
-use mathlib.Core.Path.{◌≡◌, sym, ◌∙◌}
+use mathlib.Core.Path.{◌≡◌, refl, sym, ◌∙◌}
 use contract.Lifetimes.{Lfts}
 use borrow.Fn.World.{ArgsD, ResD}
 use denote.Triple.Clauses.{AtExit}
 use Rattle.stripe.specs.declared.Shape.{Shape}
+use Rattle.stripe.proofs.Refused.{same_answer}
 use Rattle.stripe.specs.contracts.Shape.new as shape-new
 use Rattle.stripe.proofs.Shape.new.Reads as shape-new-reads
 use Rattle.stripe.specs.contracts.Shape.refusal as shape-refusal
@@ -30,7 +31,7 @@ shape_new_unique κs a r r' s s' p q =
 
 pub shape_refusal_unique : (κs : Lfts 0) (a : ArgsD shape-refusal.signature κs) (r r' : ResD shape-refusal.signature κs)
     (s s' : AtExit shape-refusal.ended κs) → shape-refusal-reads.Post κs a r s → shape-refusal-reads.Post κs a r' s' → r ≡ r'
-shape_refusal_unique κs a r r' s s' p q = p ∙ sym q
+shape_refusal_unique κs a r r' s s' p q = same_answer r r' (p ∙ sym q) (λ x y e f. refl)
 
 pub shape_runs_unique : (κs : Lfts 0) (a : ArgsD shape-runs.signature κs) (r r' : ResD shape-runs.signature κs)
     (s s' : AtExit shape-runs.ended κs) → shape-runs-reads.Post κs a r s → shape-runs-reads.Post κs a r' s' → r ≡ r'
@@ -42,7 +43,7 @@ shape_run_length_unique κs a r r' s s' p q = p ∙ sym q
 
 pub lent_refusal_unique : (κs : Lfts 0) (a : ArgsD lent-refusal.signature κs) (r r' : ResD lent-refusal.signature κs)
     (s s' : AtExit lent-refusal.ended κs) → lent-refusal-reads.Post κs a r s → lent-refusal-reads.Post κs a r' s' → r ≡ r'
-lent_refusal_unique κs a r r' s s' p q = p ∙ sym q
+lent_refusal_unique κs a r r' s s' p q = same_answer r r' (p ∙ sym q) (λ x y e f. refl)
 
 pub column_unique : (κs : Lfts 1) (a : ArgsD column.signature κs) (r r' : ResD column.signature κs) (s s' : AtExit column.ended κs)
     → column-reads.Post κs a r s → column-reads.Post κs a r' s' → r.now ≡ r'.now

@@ -1,3 +1,4 @@
 pub mod Shape
+pub mod Refusal
 pub mod Stripe
 pub mod Column

@@ -1,14 +1,17 @@
 // A stripe whose data and parity are lent as two buffers: its refusal, and its column at a position.
 ghost use Rattle.std.specs.Prelude.{◌≡◌, ◌+◌, ◌*◌, ◌≤◌, length, take, drop};
 ghost use Rattle.stripe.specs.Column.{lent_refusal, column_of};
+ghost use Rattle.stripe.specs.Refusal.{refusal_of};
 
 use crate::Shape;
+use crate::refusal::Refusal;
 
-// The column at a position, as the part of whichever buffer holds it; an empty part for 1, 2, 5 or a position not below n.
+// The column at a position, as the part of whichever buffer holds it; where what is lent is refused, or the position is not below n, an
+// empty part, and no Option: document 01 and `column_of` say so of this call alone.
 pub fn column<'a>(s: Shape, data: &'a [u8], parity: &'a [u8], at: usize) -> &'a [u8]
     ensures { result.now ≡ column_of s «data».now parity.now at }
 {
-    if lent_refusal(s, data.len(), parity.len()) != 0 {
+    if lent_refusal(s, data.len(), parity.len()).is_err() {
         return &data[0..0];
     }
     let k = s.k;
@@ -23,24 +26,15 @@ pub fn column<'a>(s: Shape, data: &'a [u8], parity: &'a [u8], at: usize) -> &'a 
     &data[0..0]
 }
 
-// 1 or 2 for the shape, else 5 where there are not k*l data bytes and r*l parity bytes, else 0.
-pub fn lent_refusal(s: Shape, d: usize, p: usize) -> u32
-    ensures { result ≡ lent_refusal s d p }
+// Refused as the shape is, else as `Buffer` where there are not k*l data bytes and r*l parity bytes.
+pub fn lent_refusal(s: Shape, d: usize, p: usize) -> Result<(), Refusal>
+    ensures { refusal_of result ≡ lent_refusal s d p }
 {
-    let no = s.refusal();
-    if no != 0 {
-        return no;
+    s.refusal()?;
+    if d != s.k * s.l || p != s.r * s.l {
+        return Err(Refusal::Buffer);
     }
-    let k = s.k;
-    let r = s.r;
-    let l = s.l;
-    if d != k * l {
-        return 5;
-    }
-    if p != r * l {
-        return 5;
-    }
-    0
+    Ok(())
 }
 
 // The l bytes of column c of a buffer that holds it.

@@ -2,10 +2,15 @@
 #![tactic(auto)]
 
 pub mod column;
+pub mod refusal;
 
-ghost use Rattle.std.specs.Prelude.{◌≡◌, ◌≤◌};
-ghost use Rattle.stripe.specs.Shape.{most_data, most_parity, points_allowed, mark_allowed, length_allowed, shape_refusal};
+ghost use Rattle.std.specs.Prelude.{◌≡◌, ◌≤◌, ◌&&◌};
+ghost use Rattle.stripe.specs.Shape.{most_data, most_parity, data_allowed, parity_allowed, points_allowed, mark_allowed, length_allowed};
+ghost use Rattle.stripe.specs.Shape.{shape_refusal};
+ghost use Rattle.stripe.specs.Refusal.{refusal_of};
 ghost use Rattle.stripe.specs.Stripe.{runs, run_length, among};
+
+use crate::refusal::Refusal;
 
 // The most data columns.
 pub const MOST_DATA: usize = 255;
@@ -38,36 +43,17 @@ impl Shape {
         Shape { k, r, t, l }
     }
 
-    // 1 where k, r or t is not allowed, else 2 where l is not, else 0.
-    pub fn refusal(self) -> u32
-        ensures { result ≡ shape_refusal self }
+    // Refused as `Shape` where k, r or t is not allowed, else as `Length` where l is not.
+    pub fn refusal(self) -> Result<(), Refusal>
+        ensures { refusal_of result ≡ shape_refusal self }
     {
-        let k = self.k;
-        let r = self.r;
-        let t = self.t;
-        let l = self.l;
-        if k < 1 {
-            return 1;
+        if !numbers_allowed(self.k, self.r, self.t) {
+            return Err(Refusal::Shape);
         }
-        if MOST_DATA < k {
-            return 1;
+        if !length_allowed(self.t, self.l) {
+            return Err(Refusal::Length);
         }
-        if r < 1 {
-            return 1;
-        }
-        if MOST_PARITY < r {
-            return 1;
-        }
-        if !points_allowed(k, r) {
-            return 1;
-        }
-        if !mark_allowed(k, r, t) {
-            return 1;
-        }
-        if !length_allowed(t, l) {
-            return 2;
-        }
-        0
+        Ok(())
     }
 
     // How many runs a column is cut into: t, or one if the stripe is plain.
@@ -85,59 +71,52 @@ impl Shape {
     }
 }
 
+// Whether all three are allowed, each and together.
+fn numbers_allowed(k: usize, r: usize, t: usize) -> bool
+    ensures { result ≡ (data_allowed k && parity_allowed r && points_allowed k r && mark_allowed k r t) }
+{
+    data_allowed(k) && parity_allowed(r) && points_allowed(k, r) && mark_allowed(k, r, t)
+}
+
+// Whether k is 1 to 255.
+fn data_allowed(k: usize) -> bool
+    ensures { result ≡ data_allowed k }
+{
+    1 <= k && k <= MOST_DATA
+}
+
+// Whether r is 1 to 16.
+fn parity_allowed(r: usize) -> bool
+    ensures { result ≡ parity_allowed r }
+{
+    1 <= r && r <= MOST_PARITY
+}
+
 // Whether r is at most 3, or k + r at most 255.
 fn points_allowed(k: usize, r: usize) -> bool
     requires { (k ≤ most_data) × (r ≤ most_parity) }
     ensures { result ≡ points_allowed k r }
 {
-    if r <= MOST_ROWS {
-        return true;
-    }
-    k + r <= MOST_POINTS
+    r <= MOST_ROWS || k + r <= MOST_POINTS
 }
 
 // Whether t is 0, or r < t <= 3 with t <= k.
 fn mark_allowed(k: usize, r: usize, t: usize) -> bool
     ensures { result ≡ mark_allowed k r t }
 {
-    if t == 0 {
-        return true;
-    }
-    if t <= r {
-        return false;
-    }
-    if MOST_ROWS < t {
-        return false;
-    }
-    t <= k
+    t == 0 || (r < t && t <= MOST_ROWS && t <= k)
 }
 
 // Whether l is 1 to 4096, and divisible by t if t is not 0.
 fn length_allowed(t: usize, l: usize) -> bool
     ensures { result ≡ length_allowed t l }
 {
-    if l < 1 {
-        return false;
-    }
-    if MOST_LENGTH < l {
-        return false;
-    }
-    if t == 0 {
-        return true;
-    }
-    l % t == 0
+    1 <= l && l <= MOST_LENGTH && (t == 0 || l % t == 0)
 }
 
 // Whether the position stands in the list.
 pub fn is_lost(lost: &[u16], c: usize) -> bool
     ensures { result ≡ among c lost.now }
 {
-    let mut i = 0;
-    while i < lost.len() {
-        if lost[i] as usize == c {
-            return true;
-        }
-        i += 1;
-    }
-    false
+    lost.iter().any(|e| c == usize::from(*e))
 }

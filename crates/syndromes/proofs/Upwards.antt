@@ -103,12 +103,11 @@ one_more j i c m p r f back e =
 
 -- ---- the columns before x, one after another
 
--- a column before x ends within the stripe, and the places after it begin there
-pub column_within : (xs : List ℕ) (k l r x from i o : ℕ) → Places xs k l r x from → i < x → o ≡ i * l + from
-    → (o + 64 ≤ length xs) × (o + l ≤ length xs)
-column_within xs k l r x from i o h less e =
+-- the places of a column before x end within the stripe
+pub column_within : (xs : List ℕ) (k l r x from i : ℕ) → Places xs k l r x from → i < x → i * l + from + 64 ≤ length xs
+column_within xs k l r x from i h less =
     let c : (suc i + 1) * l ≤ (k + r) * l = mul-le-mul_right l (omega (arith, h.within, h.some)) in
-    (omega (arith, h.long, h.fits, c), omega (arith, h.long, h.fits, c))
+    omega (arith, h.long, h.fits, c)
 
 pub places_at : {xs : List ℕ} {k l r x n : ℕ} (from : ℕ) → Parted xs k l r x n → from + 64 ≤ l → Places xs k l r x from
 places_at from h fits = record { long = omega (arith, h.long); within = omega (arith, h.within); fits = fits; some = h.some; most = h.most }
@@ -137,11 +136,14 @@ start xs k l from n w j at a b e long is =
           ∙ one-mul _ (b ((k + j) * l + (from + q))) ∙ sym (ap (λ (z : ℕ). get_or xs ((k + j) * l + (from + q)) 0 ⊕ z) (row-nil j) ∙ add-zero _);
     }
 
-pub turn : (xs : List ℕ) (k l from n w j i o : ℕ) (a b : List ℕ) (f : ℕ → ℕ → ℕ) → Back j f → Bytes xs → n ≤ w → o ≡ i * l + from
-    → o + n ≤ length xs → Risen xs k l from n w j i a → b ≡ onto f a (take (o + n - o) (drop o xs)) → Risen xs k l from n w j (i + 1) b
-turn xs k l from n w j i o a b f back bytes nw e fits h is =
+pub turn : (xs : List ℕ) (k l from n w j i : ℕ) (a b : List ℕ) (f : ℕ → ℕ → ℕ) → Back j f → Bytes xs → n ≤ w → i * l + from + n ≤ length xs
+    → Risen xs k l from n w j i a → b ≡ onto f a (take (i * l + from + n - (i * l + from)) (drop (i * l + from) xs)) → Risen xs k l from n w j (i + 1) b
+turn xs k l from n w j i a b f back bytes nw fits h is =
     record { long = ap length is ∙ onto-length f a d ∙ h.long; at = at }
   where
+    o : ℕ
+    o = i * l + from
+
     d : List ℕ
     d = take (o + n - o) (drop o xs)
 

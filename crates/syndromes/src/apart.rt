@@ -11,49 +11,44 @@ use lanes::{add, copy};
 use stripe::Shape;
 
 // What each of the first r rows lacks of the parity as it lies, over its weight g^(j*x) of column x.
-pub(crate) fn fill_apart(stripe: &[u8], k: usize, l: usize, r: usize, x: usize, out: &mut [u8])
-    requires { Parted stripe.now k l r x (length out.old) }
-    ensures { Apart stripe.now k l r x out.new }
+pub(crate) fn fill_apart(s: Shape, x: usize, stripe: &[u8], out: &mut [u8])
+    requires { Parted stripe.now s.k s.l s.r x (length out.old) }
+    ensures { Apart stripe.now s.k s.l s.r x out.new }
 {
-    let s = Shape::new(k - x, r, 0, l);
+    let k = s.k;
+    let l = s.l;
+    let upper = Shape::new(k - x, s.r, 0, l);
     let from = x * l;
     let to = k * l;
-    encode_by_rows(s, &stripe[from..to], out);
-    add_below(stripe, k, l, r, x, out);
+    encode_by_rows(upper, &stripe[from..to], out);
+    add_below(s, x, stripe, out);
 }
 
 // To the rows of the columns from x on, the parity and the columns before x.
-fn add_below(stripe: &[u8], k: usize, l: usize, r: usize, x: usize, out: &mut [u8])
-    requires { Parted stripe.now k l r x (length out.old) × RowsTo stripe.now k l r x 0 0 out.old }
-    ensures { RowsTo stripe.now k l r x l l out.new }
+fn add_below(s: Shape, x: usize, stripe: &[u8], out: &mut [u8])
+    requires { Parted stripe.now s.k s.l s.r x (length out.old) × RowsTo stripe.now s.k s.l s.r x 0 0 out.old }
+    ensures { RowsTo stripe.now s.k s.l s.r x s.l s.l out.new }
 {
-    let mut b = l % 64;
-    if 0 < b {
-        add_rows(stripe, k, l, r, x, 0, b, out);
-        add_row2(stripe, k, l, r, x, 0, b, out);
+    let l = s.l;
+    let n = l % 64;
+    if 0 < n {
+        add_rows(s, x, stripe, 0, n, out);
+        add_row2(s, x, stripe, 0, n, out);
     }
-    while b < l {
-        add_rows(stripe, k, l, r, x, b, 64, out);
-        add_row2(stripe, k, l, r, x, b, 64, out);
-        b += 64;
+    for b in 0..l / 64 {
+        let from = n + b * 64;
+        add_rows(s, x, stripe, from, 64, out);
+        add_row2(s, x, stripe, from, 64, out);
     }
 }
 
 // The same of rows 0 and 1, at the n places from `from` on, where those before are there.
-fn add_rows(
-    stripe: &[u8],
-    k: usize,
-    l: usize,
-    r: usize,
-    x: usize,
-    from: usize,
-    n: usize,
-    out: &mut [u8],
-)
-    requires { Places stripe.now k l r x from × ((n ≤ 64) × RowsTo stripe.now k l r x from from out.old) }
-    ensures { RowsTo stripe.now k l r x (from + n) from out.new }
+fn add_rows(s: Shape, x: usize, stripe: &[u8], from: usize, n: usize, out: &mut [u8])
+    requires { Places stripe.now s.k s.l s.r x from × ((n ≤ 64) × RowsTo stripe.now s.k s.l s.r x from from out.old) }
+    ensures { RowsTo stripe.now s.k s.l s.r x (from + n) from out.new }
 {
-    let v = below(stripe, k, l, x, from);
+    let l = s.l;
+    let v = below(s, x, stripe, from);
     let b0 = v.row0;
     plus(out, from, n, &b0);
     let b1 = v.row1;
@@ -61,23 +56,16 @@ fn add_rows(
 }
 
 // The same of row 2, where there is one.
-fn add_row2(
-    stripe: &[u8],
-    k: usize,
-    l: usize,
-    r: usize,
-    x: usize,
-    from: usize,
-    n: usize,
-    out: &mut [u8],
-)
-    requires { Places stripe.now k l r x from × ((n ≤ 64) × RowsTo stripe.now k l r x (from + n) from out.old) }
-    ensures { RowsTo stripe.now k l r x (from + n) (from + n) out.new }
+fn add_row2(s: Shape, x: usize, stripe: &[u8], from: usize, n: usize, out: &mut [u8])
+    requires { Places stripe.now s.k s.l s.r x from × ((n ≤ 64) × RowsTo stripe.now s.k s.l s.r x (from + n) from out.old) }
+    ensures { RowsTo stripe.now s.k s.l s.r x (from + n) (from + n) out.new }
 {
+    let r = s.r;
+    let l = s.l;
     if r < 3 {
         return;
     }
-    let b2 = below_row2(stripe, k, l, x, from);
+    let b2 = below_row2(s, x, stripe, from);
     plus(out, l + l + from, n, &b2);
 }
 
@@ -89,40 +77,36 @@ struct Rows {
 }
 
 // Of rows 0 and 1 the parity and the columns before x, at the 64 places from `from` on.
-fn below(stripe: &[u8], k: usize, l: usize, x: usize, from: usize) -> Rows
-    requires { Places stripe.now k l 2 x from }
-    ensures { BelowIn stripe.now k l x from 64 0 result.row0 × BelowIn stripe.now k l x from 64 1 result.row1 }
+fn below(s: Shape, x: usize, stripe: &[u8], from: usize) -> Rows
+    requires { Places stripe.now s.k s.l 2 x from }
+    ensures { BelowIn stripe.now s.k s.l x from 64 0 result.row0 × BelowIn stripe.now s.k s.l x from 64 1 result.row1 }
 {
-    let p = k * l + from;
+    let l = s.l;
+    let p = s.k * l + from;
     let mut row0 = bytes_at(stripe, p);
     let mut row1 = bytes_at(stripe, p + l);
-    let mut i = 0;
-    let mut o = from;
-    while i < x {
+    for i in 0..x {
+        let o = i * l + from;
         let e = o + 64;
         let d = &stripe[o..e];
         add(&mut row0, d);
         halve_add(&mut row1, d);
-        i += 1;
-        o += l;
     }
     Rows { row0, row1 }
 }
 
 // The same of row 2.
-fn below_row2(stripe: &[u8], k: usize, l: usize, x: usize, from: usize) -> [u8; 64]
-    requires { Places stripe.now k l 3 x from }
-    ensures { BelowIn stripe.now k l x from 64 2 result }
+fn below_row2(s: Shape, x: usize, stripe: &[u8], from: usize) -> [u8; 64]
+    requires { Places stripe.now s.k s.l 3 x from }
+    ensures { BelowIn stripe.now s.k s.l x from 64 2 result }
 {
-    let p = k * l + from;
+    let l = s.l;
+    let p = s.k * l + from;
     let mut row2 = bytes_at(stripe, p + l + l);
-    let mut i = 0;
-    let mut o = from;
-    while i < x {
+    for i in 0..x {
+        let o = i * l + from;
         let e = o + 64;
         quarter_add(&mut row2, &stripe[o..e]);
-        i += 1;
-        o += l;
     }
     row2
 }

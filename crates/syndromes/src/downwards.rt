@@ -1,4 +1,5 @@
 // The steps of rows 1 and 2 downwards: loops over byte slices that take a half or a quarter of a sum, made of shifts.
+// Each has its one line of loop: as one function of a closure it would be longer, by the closure's law in the clauses.
 ghost use Rattle.std.specs.Prelude.{◌≡◌, ℕ, ◌/◌};
 ghost use Rattle.field.specs.Field.{◌⊕◌, ◌⊗◌, polynomial};
 ghost use Rattle.lanes.specs.Lanes.{onto};
@@ -15,10 +16,8 @@ pub(crate) fn halve_add(a: &mut [u8], d: &[u8])
     ensures { a.new ≡ onto (λ (x y : ℕ). (polynomial / 2) ⊗ (x ⊕ y)) a.old d.now }
 {
     let n = shorter(a.len(), d.len());
-    let mut q = 0;
-    while q < n {
+    for q in 0..n {
         a[q] = halve(a[q] ^ d[q]);
-        q += 1;
     }
 }
 
@@ -27,10 +26,8 @@ pub(crate) fn quarter_add(a: &mut [u8], d: &[u8])
     ensures { a.new ≡ onto (λ (x y : ℕ). (polynomial / 4) ⊗ (x ⊕ y)) a.old d.now }
 {
     let n = shorter(a.len(), d.len());
-    let mut q = 0;
-    while q < n {
+    for q in 0..n {
         a[q] = halve(halve(a[q] ^ d[q]));
-        q += 1;
     }
 }
 

@@ -28,17 +28,14 @@ pub fn syndromes(s: Shape, x: usize, stripe: &[u8], out: &mut [u8])
         fill_whole(s, x, stripe, out);
         return;
     }
-    let k = s.k;
-    let l = s.l;
-    let r = s.r;
-    fill_apart(stripe, k, l, r, x, out);
+    fill_apart(s, x, stripe, out);
 }
 
 // Whether a stripe of d bytes and a buffer of p bytes are lent as they should be, and x may be set apart.
 fn lent(s: Shape, x: usize, d: usize, p: usize) -> bool
     ensures { Says result (Lent s x d p) }
 {
-    if s.refusal() != 0 {
+    if s.refusal().is_err() {
         return false;
     }
     let k = s.k;
@@ -99,12 +96,10 @@ fn divide(s: Shape, x: usize, out: &mut [u8])
     }
     let r = s.r;
     let l = s.l;
-    let mut j = 1;
-    while j < r {
+    for j in 1..r {
         let a = j * l;
         let e = a + l;
         let c = Gf::power(j * x).inverse();
         scale_all(&mut out[a..e], c.0);
-        j += 1;
     }
 }

@@ -7,14 +7,15 @@ use native.Mathlib.Omega.{arith}
 use native.Mathlib.Nat.{suc-mul, mul-add, mul_left_comm}
 use native.Mathlib.Numerals.{add-one}
 use lib.Dec.{ltb}
-use lib.ListN.{length, take, drop, length-append, length-take}
-use lib.Seq.{drop-drop}
+use lib.ListN.{length, take, drop, length-append, length-take, length-drop}
+use lib.Seq.{drop-drop, length-take-le}
+use Rattle.stripe.proofs.Places.{column_inside}
 use Rattle.stripe.specs.declared.Shape.{Shape}
 use Rattle.stripe.specs.Shape.{columns}
 use Rattle.stripe.specs.Stripe.{among}
 use Rattle.field.specs.Bytes.{over}
-use Rattle.text.specs.Text.{refusal_text, decimal_in, kept_word, mended_word, first_line, column_line, column_lines, stripe_text}
-use Rattle.field.proofs.Over.{over_on, over_long}
+use Rattle.text.specs.Text.{decimal_in, kept_word, mended_word, first_line, column_line, column_lines, stripe_text}
+use Rattle.field.proofs.Over.{over_on}
 use Rattle.text.proofs.Pieces.{hex-length}
 
 -- ---- one line more
@@ -50,12 +51,17 @@ lines_grow l es m (suc d) xs =
     let e : m + suc d ≡ suc (m + d) = omega arith in
     omega (arith, lines_grow l es m d xs, lines_length l es (m + d) xs, ap (λ (k : ℕ). length (column_lines l es 0 k xs)) e)
 
--- the line of the column that starts at `from`
-pub line_from : (l : ℕ) (es : List ℕ) (c from : ℕ) (xs : List ℕ) (b : Bool) → b ≡ among c es → from ≡ c * l
-    → column_line c b (take (from + l - from) (drop from xs)) ≡ column_line c (among c es) (take l (drop (c * l) xs))
-line_from l es c from xs b e f =
-    let g : from + l - from ≡ l = omega arith in
-    ap₂ (λ (m : Bool) (n : ℕ). column_line c m (take n (drop from xs))) e g ∙ ap (λ (n : ℕ). column_line c (among c es) (take l (drop n xs))) f
+-- the line of a column that is cut out of the stripe
+pub line_from : (l : ℕ) (es : List ℕ) (c : ℕ) (xs : List ℕ) (b : Bool) → b ≡ among c es
+    → column_line c b (take (c * l + l - c * l) (drop (c * l) xs)) ≡ column_line c (among c es) (take l (drop (c * l) xs))
+line_from l es c xs b e =
+    let g : c * l + l - c * l ≡ l = omega arith in
+    ap₂ (λ (m : Bool) (n : ℕ). column_line c m (take n (drop (c * l) xs))) e g
+
+-- lines of as many bytes are as long
+line_long : (c : ℕ) (b : Bool) (xs ys : List ℕ) → length xs ≡ length ys → length (column_line c b xs) ≡ length (column_line c b ys)
+unfolding column_line
+line_long c b xs ys e = simp (length-append, hex-length) (omega (arith, e))
 
 -- one turn of the loop over the columns
 module _ (out₀ out out' : List ℕ) (at next next' l n c : ℕ) (es xs : List ℕ) (below : c < n)
@@ -77,17 +83,26 @@ module _ (out₀ out out' : List ℕ) (at next next' l n c : ℕ) (es xs : List 
         ap (λ (k : ℕ). length (column_lines l es 0 k xs)) e,
       )
 
+  pub line_room : (b : Bool) (ys : List ℕ) → b ≡ among c es → length ys ≡ l → n * l ≤ length xs → next ≡ at + length (column_lines l es 0 c xs)
+      → length out ≡ length out₀ → next + length (column_line c b ys) ≤ length out
+  line_room b ys e f g h k =
+      let m : length (take l (drop (c * l) xs)) ≡ l = length-take-le l (drop (c * l) xs) (omega (arith, length-drop (c * l) xs, column_inside c n l below)) in
+      omega (
+        arith,
+        ap (λ (p : Bool). length (column_line c p ys)) e,
+        line_long c (among c es) ys (take l (drop (c * l) xs)) (omega arith),
+        line_fits,
+      )
+
   pub lines_turn : next ≡ at + length (column_lines l es 0 c xs) → out ≡ over out₀ at (column_lines l es 0 c xs)
       → next' ≡ next + length (column_line c (among c es) (take l (drop (c * l) xs)))
       → out' ≡ over out next (column_line c (among c es) (take l (drop (c * l) xs)))
-      → (next' ≡ at + length (column_lines l es 0 (c + 1) xs)) × ((length out' ≡ length out₀) × (out' ≡ over out₀ at (column_lines l es 0 (c + 1) xs)))
-  lines_turn e f g h =
-      let o = over_on out₀ out out' at next (column_lines l es 0 c xs) (column_line c (among c es) (take l (drop (c * l) xs))) f e h line_fits
-      ∙ ap (over out₀ at) (sym more) in
-      let k = length-append (column_lines l es 0 c xs) (column_line c (among c es) (take l (drop (c * l) xs))) in (
-        omega (arith, ap length more, k),
-        (over_long out₀ out' at (column_lines l es 0 (c + 1) xs) o (omega (arith, ap length more, k, line_fits)), o),
-      )
+      → (next' ≡ at + length (column_lines l es 0 (c + 1) xs)) × (out' ≡ over out₀ at (column_lines l es 0 (c + 1) xs))
+  lines_turn e f g h = (
+    omega (arith, ap length more, length-append (column_lines l es 0 c xs) (column_line c (among c es) (take l (drop (c * l) xs)))),
+    over_on out₀ out out' at next (column_lines l es 0 c xs) (column_line c (among c es) (take l (drop (c * l) xs))) f e h line_fits
+        ∙ ap (over out₀ at) (sym more),
+  )
 
 -- ---- how long the text is at most
 
@@ -101,6 +116,10 @@ digits_at_most (suc m) n =
     either : (b : Bool) (xs ys : List ℕ) (k : ℕ) → length xs ≤ k → length ys ≤ k → length (cond b xs ys) ≤ k
     either true xs ys k p q = p
     either false xs ys k p q = q
+
+-- a number of 64 bits has at most 20
+pub decimal_short : (n : ℕ) → length (decimal_in 20 n) ≤ 20
+decimal_short n = digits_at_most 20 n
 
 state_at_most : (b : Bool) → length (cond b mended_word kept_word) ≤ 8
 state_at_most true = omega arith
@@ -146,7 +165,3 @@ text_at_most s es xs h k =
 
     mul_two : (n l : ℕ) → n * (2 * l) ≡ 2 * (n * l)
     mul_two n l = mul_left_comm n 2 l
-
-pub refusal_at_most : (v : ℕ) → length (refusal_text v) ≤ 40
-unfolding refusal_text
-refusal_at_most v = simp length-append (omega (arith, digits_at_most 20 v))

@@ -1,16 +1,17 @@
 -- Digits, and bytes in hex, one more at a time; and pieces of text put one after the other.
 use Prim.Native.Nat.{ℕ, zero, suc, ◌+◌, ◌-◌, ◌*◌, ◌/◌, ◌%◌, ◌≤◌, ◌<◌}
-use mathlib.Core.Path.{◌≡◌, refl, sym, ap, ◌∙◌}
-use mathlib.Core.List.{List, [], ◌∷◌, ◌++◌}
+use mathlib.Core.Path.{◌≡◌, refl, sym, ap, ap₂, ◌∙◌}
+use mathlib.Core.List.{List, [], ◌∷◌, ◌++◌, append_assoc}
 use native.Mathlib.Omega.{arith}
 use native.Mathlib.Numerals.{add-one}
 use native.Mathlib.Nat.{mod-eq_of_lt}
 use borrow.Author.Tests.{lt-ltb, le-ltb}
-use lib.ListN.{length, get_or, take, length-append}
-use lib.Seq.{take-suc, take_all, length-take-le}
+use lib.ListN.{length, get_or, take, drop, length-append}
+use lib.Seq.{take-suc, take_all, length-take-le, drop-drop}
+use borrow.Rule.Slice.PartMut.{put_mid}
 use Rattle.field.specs.Bytes.{over}
 use Rattle.text.specs.Text.{decimal_in, hex_digit, hex}
-use Rattle.field.proofs.Over.{over_none, over_on, over_long}
+use Rattle.field.proofs.Over.{over_none, over_on, over_front}
 
 pub take_more : (xs : List ℕ) (q : ℕ) → q < length xs → take (q + 1) xs ≡ take q xs ++ (get_or xs q 0 ∷ [])
 take_more xs q h = rw add-one (take-suc xs q 0 h)
@@ -52,23 +53,27 @@ digits_more (suc m) n h l =
     let e : m ≡ suc m - 1 = omega arith in
     simp (le-ltb n 10 l) (ap (λ (k : ℕ). decimal_in k (n / 10) ++ ((48 + n % 10) ∷ [])) e)
 
--- ---- one turn of a loop that writes a list by its elements, each as the piece f of it; `whole xs` is what is written of xs
+-- ---- a part of the output that a list is copied to
+
+pub part_put : (out ys xs : List ℕ) (at n : ℕ) → ys ≡ xs → n ≡ length xs → put_mid at n out ys ≡ over out at xs
+unfolding over
+part_put out ys xs at n e f =
+    ap₂ (λ (k : ℕ) (zs : List ℕ). put_mid at k out zs) f e
+    ∙ ap (λ (t : List ℕ). take at out ++ (xs ++ t)) (drop-drop (length xs) at out)
+
+pub front_put : (out ys xs : List ℕ) (n : ℕ) → ys ≡ xs → n ≡ length xs → ys ++ drop n out ≡ over out 0 xs
+front_put out ys xs n e f = ap₂ (λ (k : ℕ) (zs : List ℕ). zs ++ drop k out) f e ∙ sym (over_front out xs)
+
+-- ---- one turn of the loop that writes bytes in hex, two digits each
 
 module _ (out₀ w out out' : List ℕ) (at next q : ℕ) (below : q < length w) where
-  -- bytes in hex, two digits at each turn
   pub hex_turn : next ≡ at + 2 * q → out ≡ over out₀ at (hex (take q w)) → out' ≡ over out next (hex (get_or w q 0 ∷ []))
-      → at + length (hex w) ≤ length out₀ → (length out' ≡ length out₀) × (out' ≡ over out₀ at (hex (take (q + 1) w)))
+      → at + length (hex w) ≤ length out₀ → out' ≡ over out₀ at (hex (take (q + 1) w))
   hex_turn e f g h =
       let n : length (take q w) ≡ q = length-take-le q w (omega arith) in
-      let m : length (take (q + 1) w) ≡ q + 1 = length-take-le (q + 1) w (omega arith) in
-      let a : length (hex (take q w)) ≡ 2 * q = hex-length (take q w) ∙ ap (λ (k : ℕ). 2 * k) n in
-      let b : length (hex (take (q + 1) w)) ≡ 2 * (q + 1) = hex-length (take (q + 1) w) ∙ ap (λ (k : ℕ). 2 * k) m in
-      let o : out' ≡ over out₀ at (hex (take q w) ++ hex (get_or w q 0 ∷ [])) =
-      over_on out₀ out out' at next (hex (take q w)) (hex (get_or w q 0 ∷ [])) f (omega arith) g
-      (omega (arith, hex-length w, hex-length (get_or w q 0 ∷ []))) in
-      let p : out' ≡ over out₀ at (hex (take (q + 1) w)) =
-      o ∙ ap (over out₀ at) (sym (ap hex (take_more w q below) ∙ hex-append (take q w) (get_or w q 0 ∷ []))) in
-      (over_long out₀ out' at (hex (take (q + 1) w)) p (omega (arith, hex-length w)), p)
+      over_on out₀ out out' at next (hex (take q w)) (hex (get_or w q 0 ∷ [])) f (omega (arith, hex-length (take q w))) g
+      (omega (arith, hex-length w, hex-length (take q w), hex-length (get_or w q 0 ∷ [])))
+      ∙ ap (over out₀ at) (sym (ap hex (take_more w q below) ∙ hex-append (take q w) (get_or w q 0 ∷ [])))
 
 -- ---- the pieces of `put_digits`
 
@@ -97,25 +102,16 @@ more_put out out' out'' at v w m n h l room e f g k =
       over_on out out' out'' at v (decimal_in (m - 1) (n / 10)) ((48 + n % 10) ∷ []) f e k (omega arith) ∙ ap (over out at) (sym (digits_more m n h l)),
     )
 
--- ---- a piece and what comes after it
+-- ---- pieces one after the other
+
+-- a piece after another, which together are the two joined
+pub then_over : (out : List ℕ) (at next : ℕ) (xs ys : List ℕ) → next ≡ at + length xs → next + length ys ≤ length out
+    → over (over out at xs) next ys ≡ over out at (xs ++ ys)
+then_over out at next xs ys e h = over_on out (over out at xs) _ at next xs ys refl e refl (omega arith)
+
+-- what shows a text that is written piece by piece
+pub ruleset pieces = (length-append, then_over, append_assoc)
 
 -- xs is written over out from `at` on, which gives out', and `next` is the place after it
 abbrev pub Put : List ℕ → ℕ → List ℕ → List ℕ → ℕ → Type 0
 Put out at xs out' next = (next ≡ at + length xs) × (out' ≡ over out at xs)
-
-pub next_on : (at next next' : ℕ) (xs ys : List ℕ) → next ≡ at + length xs → next' ≡ next + length ys → next' ≡ at + length (xs ++ ys)
-next_on at next next' xs ys e f = omega (arith, length-append xs ys)
-
-module _ (out : List ℕ) (at : ℕ) (xs ys : List ℕ) (room : at + length (xs ++ ys) ≤ length out) where
-  pub front_room : at + length xs ≤ length out
-  front_room = omega (arith, length-append xs ys)
-
-  module _ (out' : List ℕ) (next : ℕ) (p : Put out at xs out' next) where
-    pub rest_room : next + length ys ≤ length out'
-    rest_room = omega (arith, p.0, length-append xs ys, over_long out out' at xs p.1 front_room)
-
-    pub put_then : (out'' : List ℕ) (next' : ℕ) → Put out' next ys out'' next' → Put out at (xs ++ ys) out'' next'
-    put_then out'' next' q = (
-      next_on at next next' xs ys p.0 q.0,
-      over_on out out' out'' at next xs ys p.1 p.0 q.1 (omega (arith, length-append xs ys)),
-    )

@@ -13,8 +13,8 @@ use Rattle.stripe.proofs.Allowed.{allowed}
 use Rattle.field.specs.Bytes.{over}
 use Rattle.text.specs.Text.{stripe_text, refusal_text, printable, stripe_printed, refusal_printed}
 use Rattle.field.proofs.Over.{over_none}
-use Rattle.text.proofs.Pieces.{Put}
-use Rattle.text.proofs.Lines.{text_at_most, refusal_at_most}
+use Rattle.text.proofs.Pieces.{Put, pieces}
+use Rattle.text.proofs.Lines.{decimal_short, text_at_most}
 
 -- nothing written
 pub none_put : (out text : List ℕ) → text ≡ [] → (0 ≡ length text) × (out ≡ over out 0 text)
@@ -63,5 +63,5 @@ module _ (v room : ℕ) (h : 40 ≤ room) where
   unfolding refusal_printed
   printed_refusal = ap (λ (b : Bool). cond b (refusal_text v) []) (le-leb 40 room h)
 
-  pub refusal_fits : 0 + length (refusal_text v) ≤ room
-  refusal_fits = omega (arith, refusal_at_most v)
+-- what shows what is printed of a refusal
+pub ruleset printing = (pieces, over_none, unprintable_refusal, printed_refusal, decimal_short)

@@ -1,5 +1,6 @@
 // The text of the mending program. Each function writes its text over the front of what is lent, leaves what follows, and answers the
-// length of the text; where the text cannot be written it answers 0 and writes nothing.
+// length of the text; where the text cannot be written it answers 0 and writes nothing. No Option: the length is what is printed, and
+// of no text that is 0 (`printable`, `refusal_printed`).
 #![tactic(auto)]
 
 use crate::line::{put_first, put_lines, put_number};
@@ -27,7 +28,8 @@ pub fn write_text(s: Shape, lost: &[u16], stripe: &[u8], out: &mut [u8]) -> usiz
     put_lines(out, next, l, n, lost, stripe)
 }
 
-// The text of a refusal, with room for 40 bytes.
+// The text of a refusal, with room for 40 bytes. A number, and no `Refusal`: it promises the text of any.
+#[tactic(auto, using(crate::proofs::Printed::printing), unfolding(crate::specs::Text::refusal_text))]
 pub fn write_refusal(number: u32, out: &mut [u8]) -> usize
     ensures value { result ≡ length (refusal_printed number (length out.old)) }
     ensures out_after { out.new ≡ over out.old 0 (refusal_printed number (length out.old)) }
@@ -36,21 +38,18 @@ pub fn write_refusal(number: u32, out: &mut [u8]) -> usize
         return 0;
     }
     let next = put_word(out, 0, b"refused ");
-    put_number(out, next, number as usize, 10)
+    put_number(out, next, number as usize, b'\n')
 }
 
 // Whether n bytes are a stripe that can be printed, and there is room for its text.
 fn can_print(s: Shape, n: usize, room: usize) -> bool
     ensures { result ≡ printable s n room }
 {
-    if s.refusal() != 0 {
+    if s.refusal().is_err() {
         return false;
     }
     if n != (s.k + s.r) * s.l {
         return false;
     }
-    if 65536 < n {
-        return false;
-    }
-    140000 <= room
+    n <= 65536 && 140000 <= room
 }

@@ -19,6 +19,7 @@ fn put_state(out: &mut [u8], at: usize, mended: bool) -> usize
 }
 
 // The line of a column.
+#[tactic(auto, using(crate::proofs::Pieces::pieces), unfolding(crate::specs::Text::column_line))]
 fn put_line(out: &mut [u8], at: usize, c: usize, mended: bool, column: &[u8]) -> usize
     requires { at + length (column_line c mended column.now) ≤ length out.old }
     ensures value { result ≡ at + length (column_line c mended column.now) }
@@ -27,7 +28,7 @@ fn put_line(out: &mut [u8], at: usize, c: usize, mended: bool, column: &[u8]) ->
     let a = put_decimal(out, at, c);
     let b = put_state(out, a, mended);
     let d = put_hex(out, b, column);
-    put_byte(out, d, 10)
+    put_byte(out, d, b'\n')
 }
 
 // The lines of n columns of l bytes.
@@ -44,18 +45,15 @@ pub(crate) fn put_lines(
     ensures out_after { out.new ≡ over out.old at (column_lines l lost.now 0 n stripe.now) }
 {
     let mut next = at;
-    let mut from = 0;
-    let mut c = 0;
-    while c < n {
-        let to = from + l;
-        next = put_line(out, next, c, is_lost(lost, c), &stripe[from..to]);
-        from = to;
-        c += 1;
+    for c in 0..n {
+        let from = c * l;
+        next = put_line(out, next, c, is_lost(lost, c), &stripe[from..from + l]);
     }
     next
 }
 
 // A number and the byte after it.
+#[tactic(auto, using(crate::proofs::Pieces::pieces))]
 pub(crate) fn put_number(out: &mut [u8], at: usize, n: usize, after: u8) -> usize
     requires { at + length (number_then n after) ≤ length out.old }
     ensures value { result ≡ at + length (number_then n after) }
@@ -66,6 +64,7 @@ pub(crate) fn put_number(out: &mut [u8], at: usize, n: usize, after: u8) -> usiz
 }
 
 // The word `stripe` and k, r, t, l.
+#[tactic(auto, using(crate::proofs::Pieces::pieces), unfolding(crate::specs::Text::first_line))]
 pub(crate) fn put_first(out: &mut [u8], at: usize, s: Shape) -> usize
     requires { at + length (first_line s) ≤ length out.old }
     ensures value { result ≡ at + length (first_line s) }
@@ -76,8 +75,8 @@ pub(crate) fn put_first(out: &mut [u8], at: usize, s: Shape) -> usize
     let t = s.t;
     let l = s.l;
     let a = put_word(out, at, b"stripe ");
-    let b = put_number(out, a, k, 32);
-    let c = put_number(out, b, r, 32);
-    let d = put_number(out, c, t, 32);
-    put_number(out, d, l, 10)
+    let b = put_number(out, a, k, b' ');
+    let c = put_number(out, b, r, b' ');
+    let d = put_number(out, c, t, b' ');
+    put_number(out, d, l, b'\n')
 }

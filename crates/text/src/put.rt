@@ -1,4 +1,6 @@
-// Pieces of text, each written over what stands from a place on; the answer is the place after it.
+// Pieces of text, each written over what stands from a place on; the answer is the place after it. std's `write!` promises its text only of
+// a `String`, and there is no heap. A record of the output and the place would be no plainer: each clause would have to say too that it
+// holds the same `&mut` as before.
 ghost use Rattle.std.specs.Prelude.{◌≡◌, ◌+◌, ◌≤◌, ◌<◌, [], ◌∷◌, length};
 ghost use Rattle.field.specs.Bytes.{over};
 ghost use Rattle.text.specs.Text.{decimal_in, decimal, hex_digit, hex};
@@ -19,12 +21,8 @@ pub(crate) fn put_word(out: &mut [u8], at: usize, word: &[u8]) -> usize
     ensures value { result ≡ at + length word.now }
     ensures out_after { out.new ≡ over out.old at word.now }
 {
-    let mut next = at;
-    let mut q = 0;
-    while q < word.len() {
-        next = put_byte(out, next, word[q]);
-        q += 1;
-    }
+    let next = at + word.len();
+    out[at..next].copy_from_slice(word);
     next
 }
 
@@ -38,10 +36,10 @@ fn put_digits(out: &mut [u8], at: usize, n: usize, m: usize) -> usize
         return at;
     }
     if n < 10 {
-        return put_byte(out, at, (48 + n % 10) as u8);
+        return put_byte(out, at, b'0' + (n % 10) as u8);
     }
     let next = put_digits(out, at, n / 10, m - 1);
-    put_byte(out, next, (48 + n % 10) as u8)
+    put_byte(out, next, b'0' + (n % 10) as u8)
 }
 
 // A number in decimal.
@@ -58,7 +56,7 @@ fn hex_digit(d: u8) -> u8
     requires { d < 16 }
     ensures { result ≡ hex_digit d }
 {
-    if d < 10 { 48 + d } else { 87 + d }
+    if d < 10 { b'0' + d } else { b'a' - 10 + d }
 }
 
 // A byte in lower-case hex.
@@ -78,10 +76,8 @@ pub(crate) fn put_hex(out: &mut [u8], at: usize, bytes: &[u8]) -> usize
     ensures out_after { out.new ≡ over out.old at (hex bytes.now) }
 {
     let mut next = at;
-    let mut q = 0;
-    while q < bytes.len() {
-        next = put_pair(out, next, bytes[q]);
-        q += 1;
+    for b in bytes {
+        next = put_pair(out, next, *b);
     }
     next
 }

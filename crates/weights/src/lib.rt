@@ -31,34 +31,21 @@ fn shifted(acc: &mut [u8], e: usize, d: &[u8])
     requires { e ≤ 4 }
     ensures { acc.new ≡ onto (λ (x y : ℕ). gpow e ⊗ x ⊕ y) acc.old d.now }
 {
-    if e == 0 {
-        add(acc, d);
-        return;
+    match e {
+        0 => add(acc, d),
+        1 => double_add(acc, d),
+        2 => quadruple_add(acc, d),
+        3 => eightfold_add(acc, d),
+        _ => sixteenfold_add(acc, d),
     }
-    if e == 1 {
-        double_add(acc, d);
-        return;
-    }
-    if e == 2 {
-        quadruple_add(acc, d);
-        return;
-    }
-    if e == 3 {
-        eightfold_add(acc, d);
-        return;
-    }
-    sixteenfold_add(acc, d);
 }
 
-// At each place eight times the first and the second.
+// At each place eight times the first and the second. A loop of its own: with the step as a closure the contract is longer than this loop.
 fn eightfold_add(a: &mut [u8], d: &[u8])
     ensures { a.new ≡ onto (λ (x y : ℕ). 8 ⊗ x ⊕ y) a.old d.now }
 {
-    let n = shorter(a.len(), d.len());
-    let mut q = 0;
-    while q < n {
+    for q in 0..shorter(a.len(), d.len()) {
         a[q] = eightfold(a[q]) ^ d[q];
-        q += 1;
     }
 }
 
@@ -66,11 +53,8 @@ fn eightfold_add(a: &mut [u8], d: &[u8])
 fn sixteenfold_add(a: &mut [u8], d: &[u8])
     ensures { a.new ≡ onto (λ (x y : ℕ). 16 ⊗ x ⊕ y) a.old d.now }
 {
-    let n = shorter(a.len(), d.len());
-    let mut q = 0;
-    while q < n {
+    for q in 0..shorter(a.len(), d.len()) {
         a[q] = sixteenfold(a[q]) ^ d[q];
-        q += 1;
     }
 }
 
@@ -78,10 +62,8 @@ fn sixteenfold_add(a: &mut [u8], d: &[u8])
 fn sixteenfold_all(a: &mut [u8])
     ensures { a.new ≡ map (λ (x : ℕ). 16 ⊗ x) a.old }
 {
-    let mut q = 0;
-    while q < a.len() {
-        a[q] = sixteenfold(a[q]);
-        q += 1;
+    for x in a {
+        *x = sixteenfold(*x);
     }
 }
 

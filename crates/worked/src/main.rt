@@ -3,122 +3,111 @@
 // own examples can't show, a piggyback that is always taken from run 0; their bytes come from the second program. The bills are our own.
 #![tactic(auto)]
 
-use checking::{Wrong, first_wrong};
+use checking::{Place, first_wrong};
 use coding::encode::encode;
 use field::Gf;
 use fold::fold;
 use number::write_number;
 use plan::counts::{bill_of, bytes_read, columns_read};
 use plan::fold_refusal;
-use record::read::read_record;
-use std::io;
+use record::read::{Read, read_record};
+use std::{fmt, io};
 use stripe::Shape;
 use stripe::column::column;
+use stripe::refusal::Refusal;
 use writing::write_record;
 
-fn text(rt: &impl Print, words: &str) -> io::Result<()> {
-    print!(rt; "{words}")
-}
+// A shape's numbers.
+#[derive(Clone, Copy)]
+struct Numbers(Shape);
 
-fn number(rt: &impl Print, n: usize) -> io::Result<()> {
-    print!(rt; "{n}")
-}
-
-fn byte(rt: &impl Print, b: u8) -> io::Result<()> {
-    print!(rt; "{b:02x}")
-}
-
-fn bytes(rt: &impl Print, xs: &[u8]) -> io::Result<()> {
-    for x in xs {
-        text(rt, " ")?;
-        byte(rt, *x)?;
+impl fmt::Display for Numbers {
+    fn fmt<W: fmt::Write>(&self, f: &mut fmt::Formatter<W>) -> fmt::Result {
+        let s = self.0;
+        write!(f, "k={} r={} t={} L={}", s.k, s.r, s.t, s.l)
     }
-    Ok(())
 }
 
-fn named(rt: &impl Print, words: &str, n: usize) -> io::Result<()> {
-    text(rt, words)?;
-    number(rt, n)
+// Bytes, each after a space.
+#[derive(Clone, Copy)]
+struct Bytes<'a>(&'a [u8]);
+
+impl<'a> fmt::Display for Bytes<'a> {
+    fn fmt<W: fmt::Write>(&self, f: &mut fmt::Formatter<W>) -> fmt::Result {
+        for b in self.0 {
+            write!(f, " {b:02x}")?;
+        }
+        Ok(())
+    }
 }
 
-fn listed(rt: &impl Print, words: &str, xs: &[u8]) -> io::Result<()> {
-    text(rt, words)?;
-    bytes(rt, xs)
+// A number that is claimed, and whether the claim holds.
+#[derive(Clone, Copy)]
+struct Claim(usize, bool);
+
+impl fmt::Display for Claim {
+    fn fmt<W: fmt::Write>(&self, f: &mut fmt::Formatter<W>) -> fmt::Result {
+        let not = if self.1 { "" } else { "not " };
+        let n = self.0;
+        write!(f, "{not}{n}")
+    }
+}
+
+// The number of an answer's refusal, 0 where nothing is refused.
+fn number<T: Copy>(answer: Result<T, Refusal>) -> u32 {
+    match answer {
+        Ok(_) => 0,
+        Err(no) => u32::from(no),
+    }
 }
 
 fn product(rt: &impl Print, a: u8, b: u8) -> io::Result<()> {
-    byte(rt, a)?;
-    text(rt, " times ")?;
-    byte(rt, b)?;
-    text(rt, " is ")?;
-    byte(rt, Gf(a).product(Gf(b)).0)?;
-    text(rt, "\n")
+    let c = Gf(a).product(Gf(b)).0;
+    println!(rt; "{a:02x} times {b:02x} is {c:02x}")
 }
 
 fn power(rt: &impl Print, n: usize) -> io::Result<()> {
-    named(rt, "g^", n)?;
-    text(rt, " is ")?;
-    byte(rt, Gf::power(n).0)?;
-    text(rt, "\n")
-}
-
-fn shape(rt: &impl Print, s: Shape) -> io::Result<()> {
-    named(rt, "k=", s.k)?;
-    named(rt, " r=", s.r)?;
-    named(rt, " t=", s.t)?;
-    named(rt, " L=", s.l)
+    let x = Gf::power(n).0;
+    println!(rt; "g^{n} is {x:02x}")
 }
 
 fn refusal(rt: &impl Print, k: usize, r: usize, t: usize, l: usize) -> io::Result<()> {
     let s = Shape::new(k, r, t, l);
-    shape(rt, s)?;
-    named(rt, ": ", s.refusal() as usize)?;
-    text(rt, "\n")
+    println!(rt; "{}: {}", Numbers(s), number(s.refusal()))
 }
 
 fn parity(rt: &impl Print, s: Shape, data: &[u8], parity: &mut [u8]) -> io::Result<()> {
-    shape(rt, s)?;
-    listed(rt, " data", data)?;
-    let no = encode(s, data, parity);
-    named(rt, " answers ", no as usize)?;
-    listed(rt, " parity", parity)?;
-    text(rt, "\n")
+    let no = number(encode(s, data, parity));
+    println!(rt;
+        "{} data{} answers {no} parity{}",
+        Numbers(s),
+        Bytes(data),
+        Bytes(parity)
+    )
 }
 
 fn check(rt: &impl Print, s: Shape, data: &[u8], parity: &[u8]) -> io::Result<()> {
-    shape(rt, s)?;
-    listed(rt, " data", data)?;
-    listed(rt, " parity", parity)?;
+    print!(rt;
+        "{} data{} parity{}",
+        Numbers(s),
+        Bytes(data),
+        Bytes(parity)
+    )?;
     match first_wrong(s, data, parity) {
-        Wrong::Nowhere => text(rt, " agrees\n"),
-        Wrong::At(column, place) => {
-            named(rt, " is wrong at ", column)?;
-            named(rt, ", ", place)?;
-            text(rt, "\n")
-        }
-        Wrong::Refused(no) => {
-            named(rt, " is refused ", no as usize)?;
-            text(rt, "\n")
-        }
+        Ok(None) => println!(rt; " agrees"),
+        Ok(Some(Place { column, place })) => println!(rt; " is wrong at {column}, {place}"),
+        Err(no) => println!(rt; " is refused {}", u32::from(no)),
     }
-}
-
-fn claimed(rt: &impl Print, words: &str, holds: bool, n: usize) -> io::Result<()> {
-    text(rt, words)?;
-    if !holds {
-        text(rt, "not ")?;
-    }
-    number(rt, n)
 }
 
 fn plan(rt: &impl Print, s: Shape, stripes: usize, f: usize, bytes: usize) -> io::Result<()> {
-    shape(rt, s)?;
-    named(rt, " N=", stripes)?;
-    named(rt, " f=", f)?;
-    named(rt, ": ", fold_refusal(s, stripes, f) as usize)?;
-    claimed(rt, ", ", bytes_read(s, stripes, f).is(bytes), bytes)?;
-    named(rt, " bytes, ", columns_read(s, stripes, f).number())?;
-    text(rt, " columns\n")
+    let no = number(fold_refusal(s, stripes, f));
+    let claim = Claim(bytes, bytes_read(s, stripes, f).is(bytes));
+    let columns = columns_read(s, stripes, f).number();
+    println!(rt;
+        "{} N={stripes} f={f}: {no}, {claim} bytes, {columns} columns",
+        Numbers(s)
+    )
 }
 
 fn billed(
@@ -130,26 +119,30 @@ fn billed(
     written: usize,
     sum: usize,
 ) -> io::Result<()> {
-    let whole = bill_of(s, stripes, f);
-    shape(rt, s)?;
-    named(rt, " N=", stripes)?;
-    named(rt, " f=", f)?;
-    named(rt, ": columns ", whole.columns.read.number())?;
-    named(rt, " + ", whole.columns.written.number())?;
-    named(rt, " = ", whole.columns.sum.number())?;
-    claimed(rt, ", bytes ", whole.bytes.read.is(read), read)?;
-    claimed(rt, " + ", whole.bytes.written.is(written), written)?;
-    claimed(rt, " = ", whole.bytes.sum.is(sum), sum)?;
-    text(rt, "\n")
+    let bill = bill_of(s, stripes, f);
+    let columns = bill.columns;
+    let bytes = bill.bytes;
+    print!(rt; "{} N={stripes} f={f}: ", Numbers(s))?;
+    print!(rt;
+        "columns {} + {} = {}, ",
+        columns.read.number(),
+        columns.written.number(),
+        columns.sum.number()
+    )?;
+    let read = Claim(read, bytes.read.is(read));
+    let written = Claim(written, bytes.written.is(written));
+    let sum = Claim(sum, bytes.sum.is(sum));
+    println!(rt; "bytes {read} + {written} = {sum}")
 }
 
 fn folded(rt: &impl Print, s: Shape, f: usize, read: &[u8], parity: &mut [u8]) -> io::Result<()> {
     plan(rt, s, 2, f, read.len())?;
-    listed(rt, "  read", read)?;
-    let no = fold(s, 2, f, read, parity);
-    named(rt, " answers ", no as usize)?;
-    listed(rt, " parity", parity)?;
-    text(rt, "\n")
+    let no = number(fold(s, 2, f, read, parity));
+    println!(rt;
+        "  read{} answers {no} parity{}",
+        Bytes(read),
+        Bytes(parity)
+    )
 }
 
 fn part<'a>(
@@ -159,50 +152,43 @@ fn part<'a>(
     parity: &'a [u8],
     at: usize,
 ) -> io::Result<()> {
-    named(rt, "column ", at)?;
-    listed(rt, ":", column(s, data, parity, at))?;
-    text(rt, "\n")
+    println!(rt; "column {at}:{}", Bytes(column(s, data, parity, at)))
 }
 
 fn written(rt: &impl Print, value: u32) -> io::Result<()> {
     let mut out = [0u8; 5];
     let n = write_number(value, &mut out, 0);
-    number(rt, value as usize)?;
-    listed(rt, " is written", &out)?;
-    named(rt, ", next place ", n)?;
-    text(rt, "\n")
+    println!(rt; "{value} is written{}, next place {n}", Bytes(&out))
 }
 
 fn recorded(rt: &impl Print, s: Shape, stripe: &[u8], lost: &[u16]) -> io::Result<()> {
     let mut out = [0xeeu8; 16];
-    let w = write_record(s, stripe, lost, &mut out);
-    shape(rt, s)?;
-    listed(rt, " stripe", stripe)?;
-    named(rt, " answers ", w.number as usize)?;
-    named(rt, ", ", w.length)?;
-    listed(rt, " bytes:", &out)?;
-    text(rt, "\n")
-}
-
-fn front(rt: &impl Print, xs: &[u8]) -> io::Result<()> {
-    if 8 <= xs.len() {
-        bytes(rt, &xs[..8])?;
-    }
-    Ok(())
+    let answer = write_record(s, stripe, lost, &mut out);
+    let no = number(answer);
+    let length = answer.unwrap_or(0);
+    print!(rt;
+        "{} stripe{} answers {no}, {length} bytes:",
+        Numbers(s),
+        Bytes(stripe)
+    )?;
+    println!(rt; "{}", Bytes(&out))
 }
 
 fn taken(rt: &impl Print, record: &[u8]) -> io::Result<()> {
     let mut stripe = [0xeeu8; 65536];
     let mut lost = [7u16; 258];
-    let got = read_record(record, &mut stripe, &mut lost);
-    listed(rt, "record", record)?;
-    named(rt, " answers ", got.number as usize)?;
-    text(rt, ", ")?;
-    shape(rt, got.shape)?;
-    named(rt, ", ", got.lost)?;
-    text(rt, " lost, stripe")?;
-    front(rt, &stripe)?;
-    text(rt, "\n")
+    let answer = read_record(record, &mut stripe, &mut lost);
+    let no = number(answer);
+    let read = answer.unwrap_or(Read {
+        shape: Shape::new(0, 0, 0, 0),
+        lost: 0,
+    });
+    print!(rt;
+        "record{} answers {no}, {}, ",
+        Bytes(record),
+        Numbers(read.shape)
+    )?;
+    println!(rt; "{} lost, stripe{}", read.lost, Bytes(&stripe[..8]))
 }
 
 fn fields(rt: &impl Print) -> io::Result<()> {

@@ -12,9 +12,7 @@ use Rattle.stripe.specs.declared.Shape.{Shape}
 use Rattle.stripe.specs.Shape.{columns, stripe_length}
 use Rattle.stripe.specs.Stripe.{among, Ascending, Agree}
 use Rattle.stripe.proofs.Allowed.{Allowed}
-use Rattle.number.specs.declared.Number.{Number}
-use Rattle.number.specs.declared.Number.TheVariants.{Value}
-use Rattle.number.specs.Number.{number_at, number_refusal, written, value_of, next_of}
+use Rattle.number.specs.Number.{Standing, Value, number_at, number_refusal, written, value_of, next_of}
 use Rattle.writing.specs.Writing.{LaidOut}
 use Rattle.record.specs.Layout.{positions_written, survivors, kept, restored, record_of}
 use Rattle.record.specs.Reading.{first_number, second_number, third_number, fourth_number, count_number, shape_read, count_of}
@@ -41,7 +39,7 @@ number_next s q at v h e =
     record {
       value = n;
       rest =
-          ap (λ (g : Number). drop (next_of g) s) n ∙ sym (drop-drop (length (written v)) at s) ∙ ap (drop (length (written v))) e
+          ap (λ (g : Standing). drop (next_of g) s) n ∙ sym (drop-drop (length (written v)) at s) ∙ ap (drop (length (written v))) e
           ∙ drop-append_seam (written v) q;
     }
 

@@ -11,16 +11,21 @@ use lib.Dec.{leb, eqb}
 use lib.ListN.{length, get_or, take, drop, length-append, length-drop, drop_of_length-le}
 use lib.Seq.{sets, length-take-le}
 use borrow.Author.Tests.{le-leb, lt-leb, eq-eqb, ne_eqb, leb-true, eqb-true}
+use Rattle.std.specs.Prelude.{IsErrAnd}
+use Rattle.std.specs.declared.result.Result.{Result}
+use Rattle.std.specs.declared.result.Result.TheVariants.{Ok, Err}
 use Rattle.stripe.specs.declared.Shape.{Shape}
+use Rattle.stripe.specs.declared.refusal.Refusal.{Refusal}
+use Rattle.stripe.specs.Refusal.{refusal_number, refusal_of}
+use Rattle.stripe.proofs.Refused.{refused_some, same_answer}
 use Rattle.stripe.specs.Shape.{columns, stripe_length, most_rows}
 use Rattle.stripe.specs.Stripe.{among, Ascending, ascending}
 use Rattle.stripe.proofs.Allowed.{Allowed}
 use Rattle.stripe.proofs.Ascending.{ascending-nil, ascending_low, ascending_high, ascending_next, ascending_says}
-use Rattle.writing.specs.declared.Written.{Written}
 use Rattle.number.specs.Number.{written}
 use Rattle.record.specs.Layout.{positions_written, survivors, kept, record_head, record_of}
 use Rattle.record.specs.Reading.{unless, stripe_refusal}
-use Rattle.writing.specs.Writing.{write_refusal, written_of, out_written}
+use Rattle.writing.specs.Writing.{Written, write_refusal, reported, written_of, out_written}
 use Rattle.number.proofs.Written.{drop_next, groups_most}
 use Rattle.field.proofs.Over.{sets_over}
 use Rattle.record.proofs.Survivors.{survivors_lost, survivors_kept}
@@ -241,27 +246,29 @@ module _ (s : Shape) (xs es : List ℕ) (room : ℕ) (w : Writable s xs es room)
 
 -- ---- the answers
 
-pub unwritten_is : (s : Shape) (xs es : List ℕ) (room num : ℕ) (v : Written) → v ≡ record { number = num; length = 0 } → num ≡ write_refusal s xs es room
-    → (num ≡ 0 → ⊥)
-    → v ≡ written_of s xs es room
-unwritten_is s xs es room num v e q z = e ∙ rw (ne_eqb (write_refusal s xs es room) 0 (λ y. z (q ∙ y)), q)
+pub write_refused : (s : Shape) (xs es out : List ℕ) (r : Result ℕ Refusal) (e : Refusal) → IsErrAnd r (λ w. w ≡ e)
+    → refusal_number e ≡ write_refusal s xs es (length out)
+    → (reported r ≡ written_of s xs es (length out)) × (out ≡ out_written s xs es out)
+write_refused s xs es out (Ok n) e h q = absurd h
+write_refused s xs es out (Err w) e h q =
+    let some = refused_some e in
+    let b = ne_eqb (write_refusal s xs es (length out)) 0 (λ y. omega arith) in
+    (ap (λ (v : Refusal). reported (Err v)) h ∙ rw (b, q), rw b)
 
-pub written_is : (s : Shape) (xs es : List ℕ) (room n : ℕ) → n ≡ length (record_of s es xs) → write_refusal s xs es room ≡ 0
-    → ◌≡◌ {A = Written} (record { number = 0; length = n }) (written_of s xs es room)
-written_is s xs es room n e z = rw (eq-eqb (write_refusal s xs es room) 0 z, e)
+pub write_accepted : (s : Shape) (xs es out out' : List ℕ) (n : ℕ) → write_refusal s xs es (length out) ≡ 0 → n ≡ length (record_of s es xs)
+    → out' ≡ sets out 0 (record_of s es xs)
+    → (reported (Ok n) ≡ written_of s xs es (length out)) × (out' ≡ out_written s xs es out)
+write_accepted s xs es out out' n z e p =
+    let b = eq-eqb (write_refusal s xs es (length out)) 0 z in
+    (rw (b, e), p ∙ sets_over out 0 (record_of s es xs) (omega (arith, (writable s xs es (length out) z).fits)) ∙ rw b)
 
-pub number_says : (s : Shape) (xs es : List ℕ) (room : ℕ) (v : Written) → v ≡ written_of s xs es room → v.number ≡ write_refusal s xs es room
-number_says s xs es room v w = ap (λ (u : Written). u.number) w ∙ go (eqb (write_refusal s xs es room) 0) refl
+-- an answer is told by what it reports
+pub same_reported : (r s : Result ℕ Refusal) → reported r ≡ reported s → r ≡ s
+same_reported r s h = same_answer r s (numbers r ∙ (ap (λ (w : Written). w.number) h ∙ sym (numbers s))) (same r s h)
   where
-    go : (b : Bool) → eqb (write_refusal s xs es room) 0 ≡ b
-        → (cond {A = Written} b (record { number = 0; length = length (record_of s es xs) })
-        (record { number = write_refusal s xs es room; length = 0 })).number ≡ write_refusal s xs es room
-    go true e = sym (eqb-true (write_refusal s xs es room) 0 e)
-    go false e = refl
+    numbers : (r : Result ℕ Refusal) → refusal_of r ≡ (reported r).number
+    numbers (Ok n) = refl
+    numbers (Err e) = refl
 
-pub out_stays : (s : Shape) (xs es out : List ℕ) → (write_refusal s xs es (length out) ≡ 0 → ⊥) → out ≡ out_written s xs es out
-out_stays s xs es out z = rw (ne_eqb (write_refusal s xs es (length out)) 0 z)
-
-pub out_put : (s : Shape) (xs es out : List ℕ) → write_refusal s xs es (length out) ≡ 0 → sets out 0 (record_of s es xs) ≡ out_written s xs es out
-out_put s xs es out z =
-    sets_over out 0 (record_of s es xs) (omega (arith, (writable s xs es (length out) z).fits)) ∙ rw (eq-eqb (write_refusal s xs es (length out)) 0 z)
+    same : (r s : Result ℕ Refusal) → reported r ≡ reported s → (x y : ℕ) → r ≡ Ok x → s ≡ Ok y → x ≡ y
+    same r s h x y p q = ap (λ (w : Written). w.length) (ap reported (sym p) ∙ (h ∙ ap reported q))

@@ -3,7 +3,10 @@ use Rattle.std.specs.Prelude.{ℕ, ◌≤◌, ◌≡◌, cond, List, [], ◌∷�
 use Rattle.stripe.specs.declared.Shape.{Shape}
 use Rattle.stripe.specs.Shape.{shape_refusal, columns, stripe_length}
 use Rattle.stripe.specs.Stripe.{Ascending, ascending}
-use Rattle.writing.specs.declared.Written.{Written}
+use Rattle.std.specs.declared.result.Result.{Result}
+use Rattle.std.specs.declared.result.Result.TheVariants.{Ok, Err}
+use Rattle.stripe.specs.declared.refusal.Refusal.{Refusal}
+use Rattle.stripe.specs.Refusal.{refusal_number}
 use Rattle.field.specs.Bytes.{over}
 use Rattle.record.specs.Layout.{record_of}
 use Rattle.record.specs.Reading.{first_of, unless, stripe_refusal}
@@ -17,6 +20,15 @@ write_refusal s xs es room =
     ∷ unless (leb (length (record_of s es xs)) 65536) 5
     ∷ unless (leb (length (record_of s es xs)) room) 5
     ∷ [])
+
+-- what writing reports: 0 and the record's length; or a refusal, and 0
+pub record Written : Type 0 where
+  pub number : ℕ
+  pub length : ℕ
+
+abbrev pub reported : Result ℕ Refusal → Written
+reported (Ok n) = record { number = 0; length = n }
+reported (Err e) = record { number = refusal_number e; length = 0 }
 
 -- what writing reports: the record's length, or a refusal
 abbrev pub written_of : Shape → List ℕ → List ℕ → ℕ → Written

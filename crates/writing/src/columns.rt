@@ -6,7 +6,8 @@ ghost use Rattle.record.specs.Layout.{kept, survivors};
 use lanes::copy;
 use stripe::is_lost;
 
-// The surviving columns of a stripe of n, written one after the other from a place on.
+// The surviving columns of a stripe of n, written one after the other from a place on. It packs what record's `fill_columns`
+// spreads: a loop for both ways would be public, hence stop where a length does not fit, and each would show that it does not.
 pub(crate) fn put_columns(
     stripe: &[u8],
     l: usize,
@@ -19,17 +20,13 @@ pub(crate) fn put_columns(
     requires l_in_bounds_2 { first + kept lost.now 0 n * l ≤ length out.old }
     ensures { out.new ≡ sets out.old first (survivors l lost.now 0 n stripe.now) }
 {
-    let mut c = 0;
-    let mut from = 0;
     let mut at = first;
-    while c < n {
-        let next = from + l;
+    for c in 0..n {
         if !is_lost(lost, c) {
+            let from = c * l;
             let end = at + l;
-            copy(&mut out[at..end], &stripe[from..next]);
+            copy(&mut out[at..end], &stripe[from..from + l]);
             at = end;
         }
-        from = next;
-        c += 1;
     }
 }

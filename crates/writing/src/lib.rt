@@ -5,32 +5,26 @@ use crate::columns::put_columns;
 use number::{number_length, write_number};
 use record::read::stripe_refusal;
 use stripe::Shape;
+use stripe::refusal::Refusal;
 
 mod columns;
 
-ghost use Rattle.std.specs.Prelude.{◌≡◌, ◌+◌, ◌≤◌, length};
+ghost use Rattle.std.specs.Prelude.{◌≡◌, ◌+◌, ◌≤◌, length, IfOk};
 ghost use Rattle.std.proofs.lemmas.List.Edits.{sets};
+ghost use Rattle.stripe.specs.Refusal.{refusal_of};
 ghost use Rattle.stripe.specs.Stripe.{ascending};
 ghost use Rattle.number.specs.Number.{written};
 ghost use Rattle.record.specs.Layout.{positions_written, record_head, record_of};
 ghost use Rattle.record.specs.Reading.{stripe_refusal};
-ghost use Rattle.writing.specs.Writing.{write_refusal, written_of, out_written};
-
-// What writing reports: 0 and the record's length; or a refusal, and 0.
-#[derive(Clone, Copy)]
-pub struct Written {
-    pub number: u32,
-    pub length: usize,
-}
+ghost use Rattle.writing.specs.Writing.{write_refusal, reported, written_of, out_written};
 
 // Whether the positions are strictly ascending and below n.
 fn ascends_below(lost: &[u16], n: usize) -> bool
     ensures { result ≡ ascending 0 n lost.now }
 {
     let mut least = 0;
-    let mut i = 0;
-    while i < lost.len() {
-        let e = lost[i] as usize;
+    for position in lost {
+        let e = usize::from(*position);
         if e < least {
             return false;
         }
@@ -38,7 +32,6 @@ fn ascends_below(lost: &[u16], n: usize) -> bool
             return false;
         }
         least = e + 1;
-        i += 1;
     }
     true
 }
@@ -49,10 +42,8 @@ fn positions_length(lost: &[u16]) -> usize
     ensures { result ≡ length (positions_written lost.now) }
 {
     let mut total = 0;
-    let mut i = 0;
-    while i < lost.len() {
-        total += number_length(lost[i] as u32);
-        i += 1;
+    for e in lost {
+        total += number_length(u32::from(*e));
     }
     total
 }
@@ -71,36 +62,24 @@ fn head_length(s: Shape, lost: &[u16]) -> usize
     k + r + t + l + m + positions_length(lost)
 }
 
-// A refusal with nothing written.
-fn unwritten(number: u32) -> Written
-    ensures { result ≡ record { number = number; length = 0 } }
+// How long the record will be, with room for that many bytes.
+fn judge_writing(s: Shape, stripe: &[u8], lost: &[u16], room: usize) -> Result<usize, Refusal>
+    ensures refusal { refusal_of result ≡ write_refusal s stripe.now lost.now room }
+    ensures ok { IfOk result (λ n. n ≡ length (record_of s lost.now stripe.now)) }
 {
-    Written { number, length: 0 }
-}
-
-// What writing will report, with room for that many bytes.
-fn judge_writing(s: Shape, stripe: &[u8], lost: &[u16], room: usize) -> Written
-    ensures { result ≡ written_of s stripe.now lost.now room }
-{
-    let no = stripe_refusal(s);
-    if no != 0 {
-        return unwritten(no);
-    }
+    stripe_refusal(s)?;
     let n = s.k + s.r;
     if stripe.len() != n * s.l {
-        return unwritten(5);
+        return Err(Refusal::Buffer);
     }
     if !ascends_below(lost, n) {
-        return unwritten(6);
+        return Err(Refusal::Lost);
     }
     let length = head_length(s, lost) + (n - lost.len()) * s.l;
-    if 65536 < length {
-        return unwritten(5);
+    if 65536 < length || room < length {
+        return Err(Refusal::Buffer);
     }
-    if room < length {
-        return unwritten(5);
-    }
-    Written { number: 0, length }
+    Ok(length)
 }
 
 // Writes a number at a place with room for it, and answers the place after it.
@@ -119,10 +98,8 @@ fn put_positions(lost: &[u16], out: &mut [u8], first: usize) -> usize
     ensures out_after { out.new ≡ sets out.old first (positions_written lost.now) }
 {
     let mut at = first;
-    let mut i = 0;
-    while i < lost.len() {
-        at = put_number(lost[i] as u32, out, at);
-        i += 1;
+    for e in lost {
+        at = put_number(u32::from(*e), out, at);
     }
     at
 }
@@ -154,14 +131,11 @@ fn put_record(s: Shape, stripe: &[u8], lost: &[u16], out: &mut [u8])
 
 // Writes the record of a stripe whose listed columns are lost at the front of the output, and reports its length. A refusal
 // writes nothing.
-pub fn write_record(s: Shape, stripe: &[u8], lost: &[u16], out: &mut [u8]) -> Written
-    ensures value { result ≡ written_of s stripe.now lost.now (length out.old) }
+pub fn write_record(s: Shape, stripe: &[u8], lost: &[u16], out: &mut [u8]) -> Result<usize, Refusal>
+    ensures value { reported result ≡ written_of s stripe.now lost.now (length out.old) }
     ensures out_after { out.new ≡ out_written s stripe.now lost.now out.old }
 {
-    let written = judge_writing(s, stripe, lost, out.len());
-    if written.number != 0 {
-        return written;
-    }
+    let length = judge_writing(s, stripe, lost, out.len())?;
     put_record(s, stripe, lost, out);
-    written
+    Ok(length)
 }

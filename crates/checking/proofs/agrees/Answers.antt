@@ -1,6 +1,7 @@
 -- `agrees` meets its contract: the first difference is past the last byte exactly where the two agree.
 use mathlib.Core.Path.{◌≡◌, sym, ap, ◌∙◌}
 use mathlib.Core.List.{List}
+use native.Mathlib.Omega.{arith}
 use Prim.Native.Nat.{ℕ}
 use lib.Dec.{eqb}
 use lib.ListN.{length}
@@ -21,20 +22,21 @@ past s ds ps n h is =
 
 pub first_by_points-requires : goal.first_by_points-requires
 first_by_points-requires c =
-    (c.requires, many_by_points c.args.s c.if-s-gt-MOST_ROWS.true (allowed c.args.s (lent c.args.s _ _ c.requires).shape).parity_most)
+    let a = c.args.lent.now in
+    many_by_points a.shape c.if-lent-gt-MOST_ROWS.true (allowed a.shape (lent a.shape _ _ a.allowed).shape).parity_most
 
-pub returns-then-s-gt-MOST_ROWS : goal.returns-then-s-gt-MOST_ROWS
-returns-then-s-gt-MOST_ROWS c = past c.args.s _ _ _ c.requires c.first_by_points.ensures
+pub returns-then-lent-gt-MOST_ROWS : goal.returns-then-lent-gt-MOST_ROWS
+returns-then-lent-gt-MOST_ROWS c = past c.args.lent.now.shape _ _ _ c.args.lent.now.allowed c.first_by_points.ensures
 
-pub in_small-requires : goal.in_small-requires
-in_small-requires c =
-    (c.requires, (few_by_rows c.args.s c.if-s-gt-MOST_ROWS.false, c.if-n-le-SMALL.true))
+pub in_room-requires : goal.in_room-requires
+in_room-requires c =
+    (few_by_rows c.args.lent.now.shape c.if-lent-gt-MOST_ROWS.false, (c.if-n-le-SMALL.true, omega arith))
 
 pub returns-then-n-le-SMALL : goal.returns-then-n-le-SMALL
-returns-then-n-le-SMALL c = past c.args.s _ _ _ c.requires c.in_small.ensures
+returns-then-n-le-SMALL c = past c.args.lent.now.shape _ _ _ c.args.lent.now.allowed c.in_room.ensures
 
 pub first_by_rows-requires : goal.first_by_rows-requires
-first_by_rows-requires c = (c.requires, few_by_rows c.args.s c.if-s-gt-MOST_ROWS.false)
+first_by_rows-requires c = few_by_rows c.args.lent.now.shape c.if-lent-gt-MOST_ROWS.false
 
 pub returns : goal.returns
-returns c = past c.args.s _ _ _ c.requires c.first_by_rows.ensures
+returns c = past c.args.lent.now.shape _ _ _ c.args.lent.now.allowed c.first_by_rows.ensures

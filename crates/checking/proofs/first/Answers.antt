@@ -5,7 +5,8 @@ use Rattle.checking.proofs.first.Goals as goal
 
 pub first_by_points-requires : goal.first_by_points-requires
 first_by_points-requires c =
-    (c.requires, many_by_points c.args.s c.if-s-gt-MOST_ROWS.true (allowed c.args.s (lent c.args.s _ _ c.requires).shape).parity_most)
+    let a = c.args.lent.now in
+    many_by_points a.shape c.if-lent-gt-MOST_ROWS.true (allowed a.shape (lent a.shape _ _ a.allowed).shape).parity_most
 
 pub first_by_rows-requires : goal.first_by_rows-requires
-first_by_rows-requires c = (c.requires, few_by_rows c.args.s c.if-s-gt-MOST_ROWS.false)
+first_by_rows-requires c = few_by_rows c.args.lent.now.shape c.if-lent-gt-MOST_ROWS.false

@@ -1,12 +1,9 @@
--- `ascending` meets its contract: the first i powers are there, and x is the next.
-use Prim.Native.Nat.{ℕ, ◌-◌, ◌<◌, ◌≤◌}
+-- `ascending` meets its contract: the first powers are there, and x is the next.
+use Prim.Native.Nat.{ℕ, ◌<◌}
 use mathlib.Core.Path.{◌≡◌}
-use lib.ListN.{length, get_or}
+use lib.ListN.{get_or}
 use Rattle.field.specs.Field.{gpow}
 use Rattle.constants.proofs.ascending.Given as goal
 
-abbrev pub invariant-loop-i : goal.invariant-loop-i
-invariant-loop-i l = (l.i ≤ length l.initial.out) × (length l.out ≡ length l.initial.out) × (l.x ≡ gpow l.i) × ((q : ℕ) → q < l.i → get_or l.out q 0 ≡ gpow q)
-
-abbrev pub decreases-loop-i : goal.decreases-loop-i
-decreases-loop-i l = length l.initial.out - l.i
+abbrev pub invariant-loop-place : goal.invariant-loop-place
+invariant-loop-place l = (l.x ≡ gpow l.place-index) × ((q : ℕ) → q < l.place-index → get_or l.out q 0 ≡ gpow q)

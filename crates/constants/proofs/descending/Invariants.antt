@@ -1,14 +1,9 @@
 -- `descending` meets its contract: the powers from place i on are there, and x is the one before them.
 use Prim.Native.Nat.{ℕ, ◌+◌, ◌-◌, ◌<◌, ◌≤◌}
 use mathlib.Core.Path.{◌≡◌}
-use lib.ListN.{length, get_or}
+use lib.ListN.{get_or}
 use Rattle.field.specs.Field.{gpow}
 use Rattle.constants.proofs.descending.Given as goal
 
 abbrev pub invariant-loop-i : goal.invariant-loop-i
-invariant-loop-i l =
-    (l.i ≤ length l.initial.out) × (length l.out ≡ length l.initial.out) × (l.x ≡ gpow (l.e + 1 - l.i))
-    × ((q : ℕ) → l.i ≤ q → q < length l.initial.out → get_or l.out q 0 ≡ gpow (l.e - q))
-
-abbrev pub decreases-loop-i : goal.decreases-loop-i
-decreases-loop-i l = l.i
+invariant-loop-i l = (l.x ≡ gpow (l.e + 1 - l.i)) × ((q : ℕ) → l.i ≤ q → q < l.n → get_or l.out q 0 ≡ gpow (l.e - q))

@@ -5,7 +5,6 @@ use native.Mathlib.Nat.{mul-le-mul}
 use native.Mathlib.Omega.{arith}
 use lib.ListN.{length}
 use borrow.Rule.Slice.PartMut.{mid_len}
-use borrow.Author.Rules.{rules}
 use Rattle.stripe.proofs.Places.{column_inside}
 use Rattle.constants.proofs.Points.{part_filled, fold_start, fold_turn, fold_done}
 use Rattle.constants.proofs.fill_fold_points.Goals as goal
@@ -16,7 +15,7 @@ inside : (c : In-loop-i) → let r = c.args.r in
     c.loop-i.i * r + r ≤ length c.loop-i.out
 inside c =
     let r = c.args.r in
-    omega (arith, column_inside c.loop-i.i _ r c.loop-i-test.true, c.loop-i.invariant.1.long)
+    omega (arith, column_inside c.loop-i.i _ r c.loop-i-test.true, c.loop-i.invariant.long)
 
 -- and there are few of them
 few : (c : In-loop-i) → let r = c.args.r in c.loop-i.i * r + r ≤ 255
@@ -30,13 +29,13 @@ exponent c =
     mul-le-mul most c.requires.1.0
 
 pub loop-i-init : goal.loop-i-init
-loop-i-init c = (search rules, fold_start _ _ _ _ c.requires.0)
+loop-i-init c = fold_start _ _ _ _ c.requires.0
 
 pub overflow_mul-a : goal.overflow_mul-a
 overflow_mul-a c = omega (arith, few c)
 
-pub overflow_add-e : goal.overflow_add-e
-overflow_add-e c = omega (arith, few c)
+pub overflow_add-a : goal.overflow_add-a
+overflow_add-a c = omega (arith, few c)
 
 pub slice_bounds-descending-end : goal.slice_bounds-descending-end
 slice_bounds-descending-end c = omega (arith, inside c)
@@ -56,10 +55,10 @@ pub loop-i-preserved : goal.loop-i-preserved
 loop-i-preserved c =
     let at = c.loop-i in
     let filled = part_filled _ _ _ at.out _ (inside (goal.at.loop-i-preserved c).In-loop-i) c.descending.ensures in
-    (search rules, fold_turn at.i c.loop-i-test.true filled at.invariant.1)
+    fold_turn at.i c.loop-i-test.true filled at.invariant
 
 pub shape_of-out : goal.shape_of-out
-shape_of-out c = c.loop-i.invariant.1.long ∙ sym c.requires.0
+shape_of-out c = c.loop-i.invariant.long ∙ sym c.requires.0
 
 pub returns : goal.returns
-returns c = fold_done _ (omega (arith, c.requires.1.1.0)) c.loop-i-test.false c.loop-i.invariant.1
+returns c = fold_done _ (omega (arith, c.requires.1.1.0)) c.loop-i-test.false c.loop-i.invariant

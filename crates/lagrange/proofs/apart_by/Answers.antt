@@ -1,24 +1,14 @@
--- `apart_by` meets its contract: after q turns the q first lanes are done.
+-- `apart_by` meets its contract: each lane is what the closure makes of its number.
 use Prim.Native.Nat.{ℕ, ◌+◌}
-use mathlib.Core.Path.{refl}
-use native.Mathlib.Nat.{not-suc-le-zero}
-use native.Mathlib.Omega.{arith}
 use lib.ListN.{get_or}
 use borrow.Author.Rules.{rules}
 use Rattle.field.specs.Field.{◌⊕◌}
-use Rattle.lagrange.proofs.Lanes.{set_turn}
+use Rattle.lagrange.proofs.Made.{entries_made}
 use Rattle.lagrange.proofs.apart_by.Goals as goal
 
-pub loop-q-init : goal.loop-q-init
-loop-q-init c = (search rules, search rules, λ i h. absurd (not-suc-le-zero h))
-
-pub loop-q-preserved : goal.loop-q-preserved
-unfolding ◌⊕◌
-loop-q-preserved c =
-    let at = c.loop-q in
-    let a = c.args in
-    let made : ℕ → ℕ = λ i. get_or a.z.now i 0 ⊕ get_or a.z.now (i + a.s) 0 in
-    (search rules, search rules, set_turn at.d made at.q _ (omega arith) refl at.invariant.2)
-
 pub returns : goal.returns
-returns c = (search rules, λ q h. c.loop-q.invariant.2 q (omega (arith, c.loop-q-test.false)))
+unfolding ◌⊕◌
+returns c =
+    let z = c.args.z.now in
+    let made = c.from_fn.ensures.items in
+    (made.long, entries_made _ _ (λ (q : ℕ). get_or z q 0 ⊕ get_or z (q + c.args.s) 0) (λ i r f k. search rules) c.from_fn.result 16 made)

@@ -16,7 +16,6 @@ loop-s-init c =
     let bs = c.args.bs.now in
     let few : length bs ≤ 16 = c.requires in (
       search rules,
-      search rules,
       λ q h. (omega arith, get_or-replicate 16 q 1 0 (omega arith) ∙ away_none (drop (suc q) (bs ++ bs)) (get_or bs q 0)),
     )
 
@@ -31,9 +30,8 @@ loop-s-preserved c =
     let z = put_mid (length bs) (length bs + length bs - length bs) c.copy.new.a c.copy-2.new.a in
     let twice = twice_at bs blank room c.copy.ensures c.copy-2.ensures in (
       search rules,
-      search rules,
-      apart_turn bs z at.p by.result _ at.s at.invariant.0 c.loop-s-test.true few at.invariant.1 by.ensures.0 twice by.ensures.1
-          c.multiply.ensures at.invariant.2,
+      apart_turn bs z at.p by.result _ at.s (omega arith) c.loop-s-test.true few at.invariant.0 by.ensures.0 twice by.ensures.1
+          c.multiply.ensures at.invariant.1,
     )
 
 pub returns : goal.returns
@@ -41,6 +39,6 @@ returns c =
     let at = c.loop-s in
     let bs = c.args.bs.now in
     let made : (q : ℕ) → q < length bs → get_or at.p q 0 ≡ away (others bs q) (get_or bs q 0) =
-    λ q h. let all : at.s - 1 ≡ length bs - 1 = omega (arith, c.loop-s-test.false, (at.invariant.2 q h).0) in
-    (at.invariant.2 q h).1 ∙ ap (λ (n : ℕ). away (take n (drop (suc q) (bs ++ bs))) (get_or bs q 0)) all ∙ around_all bs q (get_or bs q 0) h in
-    record { long = at.invariant.1; at = made }
+    λ q h. let all : at.s - 1 ≡ length bs - 1 = omega (arith, c.loop-s-test.false, (at.invariant.1 q h).0) in
+    (at.invariant.1 q h).1 ∙ ap (λ (n : ℕ). away (take n (drop (suc q) (bs ++ bs))) (get_or bs q 0)) all ∙ around_all bs q (get_or bs q 0) h in
+    record { long = at.invariant.0; at = made }

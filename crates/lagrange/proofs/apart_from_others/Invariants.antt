@@ -1,12 +1,8 @@
 -- `apart_from_others` meets its contract: lane q is what point q is apart from the points less than s places on.
-use Prim.Native.Nat.{◌-◌, ◌≤◌}
 use mathlib.Core.Path.{◌≡◌}
 use lib.ListN.{length}
 use Rattle.lagrange.proofs.Lanes.{Apart}
 use Rattle.lagrange.proofs.apart_from_others.Given as goal
 
 abbrev pub invariant-loop-s : goal.invariant-loop-s
-invariant-loop-s l = (1 ≤ l.s) × (length l.p ≡ 16) × Apart l.bs l.s l.p
-
-abbrev pub decreases-loop-s : goal.decreases-loop-s
-decreases-loop-s l = length l.bs - l.s
+invariant-loop-s l = (length l.p ≡ 16) × Apart l.bs l.s l.p

@@ -1,29 +1,16 @@
--- `constants` meets its contract: the first v are there.
+-- `constants` meets its contract: each entry is what the closure makes of its number.
 use Prim.Native.Nat.{ℕ}
 use mathlib.Core.Path.{ap, ◌∙◌}
-use native.Mathlib.Nat.{not-suc-le-zero}
 use native.Mathlib.Omega.{arith}
 use lib.ListN.{get_or}
 use borrow.Author.Rules.{rules}
 use Rattle.field.specs.Field.{inverse_of}
-use Rattle.lagrange.proofs.Lanes.{set_turn}
+use Rattle.lagrange.proofs.Made.{entries_made}
 use Rattle.lagrange.proofs.constants.Goals as goal
-
-pub loop-v-init : goal.loop-v-init
-loop-v-init c = (search rules, search rules, λ i h. absurd (not-suc-le-zero h))
-
-pub loop-v-preserved : goal.loop-v-preserved
-loop-v-preserved c =
-    let at = c.loop-v in
-    let p = c.apart_from_others-p.result in
-    let made : ℕ → ℕ = λ i. inverse_of (get_or p i 0) in
-    (search rules, search rules, set_turn at.cs made at.v _ (omega arith) c.inverse.ensures at.invariant.2)
 
 pub returns : goal.returns
 returns c =
-    let at = c.loop-v in
-    let few = c.requires in
-    record {
-      long = at.invariant.1;
-      at = λ v h. at.invariant.2 v (omega (arith, c.loop-v-test.false, few)) ∙ ap inverse_of (c.apart_from_others-p.ensures.at v h);
-    }
+    let p = c.apart_from_others-p in
+    let made = c.from_fn.ensures.items in
+    let each = entries_made _ _ (λ (v : ℕ). inverse_of (get_or p.result v 0)) (λ i r f k. search rules) c.from_fn.result 16 made in
+    record { long = made.long; at = λ v h. each v (omega arith) ∙ ap inverse_of (p.ensures.at v h) }

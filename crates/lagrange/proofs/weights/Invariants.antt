@@ -1,11 +1,8 @@
 -- `weights` meets its contract: numbers that do not fit, or the weights of the first points, block by block.
-use Prim.Native.Nat.{◌-◌, ◌≤◌}
+use Prim.Native.Nat.{◌*◌, min}
 use lib.ListN.{length}
 use Rattle.lagrange.specs.Lanes.{Filled}
 use Rattle.lagrange.proofs.weights.Given as goal
 
-abbrev pub invariant-loop-at : goal.invariant-loop-at
-invariant-loop-at l = (l.at ≤ length l.ys) × Filled l.bs l.ys l.at l.out
-
-abbrev pub decreases-loop-at : goal.decreases-loop-at
-decreases-loop-at l = length l.ys - l.at
+abbrev pub invariant-loop-i : goal.invariant-loop-i
+invariant-loop-i l = Filled l.bs l.ys (min (l.i * 16) (length l.ys)) l.out

@@ -1,15 +1,14 @@
--- `lanes::all_zero` meets its contract: z is 0 so far exactly where all before q is zero.
-use mathlib.Core.Path.{refl}
-use Rattle.lanes.proofs.Zero.{zero_turn, zero_done}
+-- `lanes::all_zero` meets its contract: the or of all bytes is 0 exactly where each is.
+use mathlib.Core.Path.{◌≡◌, ap, ◌∙◌}
+use lib.Bits.{bit_or}
+use lib.Dec.{eqb}
+use borrow.Author.Rules.{rules}
+use Prim.Native.Nat.{ℕ}
+use Rattle.std.specs.List.{fold}
+use Rattle.lanes.proofs.Zero.{zero_or}
 use Rattle.lanes.proofs.all_zero.Goals as goal
 
-pub loop-q-init : goal.loop-q-init
-loop-q-init c = refl
-
-pub loop-q-preserved : goal.loop-q-preserved
-loop-q-preserved c =
-    let l = c.loop-q in
-    zero_turn c.args.a.now l.z l.q c.loop-q-test.true l.invariant
-
 pub returns : goal.returns
-returns c = zero_done c.args.a.now c.loop-q.z c.loop-q.q c.loop-q-test.false c.loop-q.invariant
+returns c =
+    let e : c.fold.result ≡ fold bit_or 0 c.args.a.now = search rules in
+    ap (λ (z : ℕ). eqb z 0) e ∙ zero_or c.args.a.now

@@ -1,17 +1,14 @@
 -- `lanes::copy` meets its contract: after q turns the q first places are done.
 use native.Mathlib.Omega.{arith}
 use mathlib.Core.Path.{refl}
-use borrow.Author.Rules.{rules}
 use Rattle.lanes.proofs.Onto.{start, turn, done}
 use Rattle.lanes.proofs.copy.Goals as goal
 
 pub loop-q-init : goal.loop-q-init
-loop-q-init c = (search rules, start _ _ _)
+loop-q-init c = start _ _ _
 
 pub loop-q-preserved : goal.loop-q-preserved
-loop-q-preserved c =
-    let h = c.loop-q.invariant.1 in
-    (search rules, turn _ h (omega arith) (omega arith) (refl))
+loop-q-preserved c = turn _ c.loop-q.invariant (omega arith) (omega arith) refl
 
 pub returns : goal.returns
-returns c = done c.loop-q.invariant.1 c.loop-q-test.false c.shorter-n.ensures.1.1
+returns c = done c.loop-q.invariant c.loop-q-test.false c.shorter-q-end.ensures.1.1

@@ -1,5 +1,5 @@
 -- `lost_of` meets its contract: after i turns the first i positions stand in the array, and zeros after them.
-use Prim.Native.Nat.{ℕ, ◌-◌, ◌/◌, ◌≤◌, ◌<◌}
+use Prim.Native.Nat.{ℕ, ◌≤◌, ◌<◌}
 use mathlib.Core.Path.{◌≡◌}
 use lib.ListN.{length, get_or}
 use Rattle.lost.specs.Positions.{positions}
@@ -8,8 +8,5 @@ use Rattle.lost.proofs.lost_of.Given as goal
 
 abbrev pub invariant-loop-i : goal.invariant-loop-i
 invariant-loop-i l =
-    (l.i ≤ capacity) × ((l.count ≡ length l.list / 2) × ((length l.at ≡ capacity)
-    × (((j : ℕ) → j < l.i → get_or l.at j 0 ≡ get_or (positions l.list) j 0) × ((j : ℕ) → l.i ≤ j → get_or l.at j 0 ≡ 0))))
-
-abbrev pub decreases-loop-i : goal.decreases-loop-i
-decreases-loop-i l = capacity - l.i
+    (length l.at ≡ capacity) × ((j : ℕ) → j < l.i → get_or l.at j 0 ≡ get_or (positions l.list) j 0)
+    × ((j : ℕ) → l.i ≤ j → get_or l.at j 0 ≡ 0)

@@ -1,11 +1,9 @@
 -- `all_numbers` meets its contract: the numbers of the first s rows are there.
 use Prim.Native.Nat.{◌+◌, ◌*◌, ◌≤◌}
-use mathlib.Core.Path.{◌∙◌}
 use native.Mathlib.Omega.{arith}
 use native.Mathlib.Nat.{not-suc-le-zero, mul-le-mul_right, suc-mul}
 use lib.ListN.{length}
 use Rattle.matrix.proofs.Digits.{all_turn}
-use borrow.Author.Rules.{rules}
 use Rattle.matrix.proofs.all_numbers.Goals as goal
 use Rattle.matrix.proofs.all_numbers.Goals.{In-loop-s}
 
@@ -17,7 +15,7 @@ inside c =
     omega (arith, c.requires.1.1.1.1, mul-le-mul_right m c.loop-s-test.true, suc-mul c.loop-s.s m)
 
 pub loop-s-init : goal.loop-s-init
-loop-s-init c = (search rules, search rules, record { at = λ s h. absurd (not-suc-le-zero h) })
+loop-s-init c = record { at = λ s h. absurd (not-suc-le-zero h) }
 
 pub overflow_mul-s-in-loop-s : goal.overflow_mul-s-in-loop-s
 overflow_mul-s-in-loop-s c = omega (arith, inside (goal.at.overflow_mul-s-in-loop-s c).In-loop-s)
@@ -32,9 +30,7 @@ row_numbers-requires c =
 
 pub loop-s-preserved : goal.loop-s-preserved
 loop-s-preserved c =
-    let at = c.loop-s in
-    let w = c.row_numbers.ensures in
-    (search rules, w.long ∙ at.invariant.1, all_turn c.args.matrix.now c.args.m c.args.i c.args.n at.s _ _ c.requires.1.1.0 at.invariant.2 w)
+    all_turn c.args.matrix.now c.args.m c.args.i c.args.n c.loop-s.s _ _ c.requires.1.1.0 c.loop-s.invariant c.row_numbers.ensures
 
 pub returns : goal.returns
-returns c = record { at = λ s h. c.loop-s.invariant.2.at s (omega (arith, c.loop-s-test.false)) }
+returns c = record { at = λ s h. c.loop-s.invariant.at s (omega arith) }

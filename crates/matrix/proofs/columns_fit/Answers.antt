@@ -8,5 +8,5 @@ use Rattle.matrix.proofs.columns_fit.Goals as goal
 pub returns : goal.returns
 returns c =
     let a = c.args in
-    c.ends_within.ensures ∙ ap (λ (x : ℕ). leb (a.from + x * a.stride + a.count) a.b) c.wide.ensures
+    c.ends_within.ensures ∙ ap (λ (x : ℕ). leb (a.from + x * a.stride + a.count) a.b) c.from.ensures
     ∙ greatest_fits _ _ _ _ _ _ c.greatest.ensures

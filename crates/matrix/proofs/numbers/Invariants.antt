@@ -1,5 +1,5 @@
 -- `numbers` meets its contract: the numbers of the b lowest bits are there, and those of the other bits are in hand.
-use Prim.Native.Nat.{◌+◌, ◌-◌, ◌≤◌}
+use Prim.Native.Nat.{◌+◌}
 use lib.ListN.{get_or}
 use Rattle.matrix.specs.Sums.{Numbered}
 use Rattle.matrix.proofs.Digits.{Left}
@@ -7,7 +7,4 @@ use Rattle.matrix.proofs.numbers.Given as goal
 
 abbrev pub invariant-loop-b : goal.invariant-loop-b
 invariant-loop-b l =
-    (l.b ≤ 8) × Left (λ j. get_or l.matrix (l.from + j) 0) l.n l.b l.p × Numbered (λ j. get_or l.matrix (l.from + j) 0) l.at l.n l.b l.initial.es l.es
-
-abbrev pub decreases-loop-b : goal.decreases-loop-b
-decreases-loop-b l = 8 - l.b
+    Left (λ j. get_or l.matrix (l.from + j) 0) l.n l.b l.p × Numbered (λ j. get_or l.matrix (l.from + j) 0) l.at l.n l.b l.initial.es l.es

@@ -1,9 +1,10 @@
 -- `put` meets its contract: the part comes back with the first bytes of the block.
 use native.Mathlib.Omega.{arith}
-use Rattle.matrix.proofs.Parts.{part_onto}
+use Rattle.matrix.proofs.Parts.{part_onto, part_same}
 use Rattle.matrix.proofs.put.Goals as goal
 
+pub returns-then-w-lt64 : goal.returns-then-w-lt64
+returns-then-w-lt64 c = part_onto _ _ _ _ c.args.at c.args.w c.requires.0 (omega arith) c.copy.ensures
+
 pub returns : goal.returns
-returns c =
-    let a = c.args in
-    part_onto _ _ _ _ a.at a.w c.requires.0 (omega arith) c.copy.ensures
+returns c = part_same _ _ _ _ _ 64 _ (omega arith) (part_onto _ _ _ _ c.args.at 64 (omega arith) (omega arith) c.copy-2.ensures)

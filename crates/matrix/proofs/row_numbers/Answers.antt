@@ -11,20 +11,18 @@ numbers-requires c =
     let at = c.loop-g in
     let k = c.in_group-k.ensures in
     let most = group_most c.args.n at.g in
-    (omega (arith, c.requires.0, at.invariant.1), (omega (arith, k, most.0), omega (arith, c.requires.1.1, k, most.1)))
+    (omega (arith, c.requires.0), (omega (arith, k, most.0), omega (arith, c.requires.1.1, k, most.1)))
 
 pub loop-g-preserved : goal.loop-g-preserved
 loop-g-preserved c =
     let at = c.loop-g in
     let k = c.in_group-k in
     let w = c.numbers.ensures in (
-      search rules,
-      w.long ∙ at.invariant.1,
-      row_turn c.args.matrix.now c.args.from c.args.row c.args.n at.g k.result _ _ k.ensures at.invariant.2 w,
-      λ i h. row_before _ c.args.row at.g _ _ _ w i h ∙ at.invariant.3 i h,
+      row_turn c.args.matrix.now c.args.from c.args.row c.args.n at.g k.result _ _ k.ensures at.invariant.0 w,
+      λ i h. row_before _ c.args.row at.g _ _ _ w i h ∙ at.invariant.1 i h,
     )
 
 pub returns : goal.returns
 returns c =
     let at = c.loop-g in
-    record { long = at.invariant.1; on = λ g b hg hb. at.invariant.2 g b (omega (arith, c.loop-g-test.false)) hb; before = at.invariant.3 }
+    record { long = search rules; on = λ g b hg hb. at.invariant.0 g b (omega arith) hb; before = at.invariant.1 }

@@ -14,10 +14,10 @@ inside : (c : In-loop-s) → let count = c.args.count in
 inside c =
     let h = c.requires in
     let count = c.args.count in
-    omega (arith, c.loop-s.invariant.1.long, h.1.1.1.1.1.1.1.0, mul-le-mul_right count c.loop-s-test.true, suc-mul c.loop-s.s count)
+    omega (arith, c.loop-s.invariant.long, h.1.1.1.1.1.1.1.0, mul-le-mul_right count c.loop-s-test.true, suc-mul c.loop-s.s count)
 
 pub loop-s-init : goal.loop-s-init
-loop-s-init c = (search rules, rowed_start _ _ _ _ _ _ _ _)
+loop-s-init c = rowed_start _ _ _ _ _ _ _ _
 
 pub straight-y-requires : goal.straight-y-requires
 straight-y-requires c =
@@ -39,7 +39,7 @@ loop-s-preserved c =
     let at = c.loop-s in
     let h = c.requires.1.1.1.1.1 in
     let value = c.straight-y.ensures in
-    (search rules, rowed_turn _ _ _ _ c.args.count c.args.at _ at.s _ _ _ _ h.1.0 h.0 at.invariant.1 value c.lay.ensures)
+    rowed_turn _ _ _ _ c.args.count c.args.at _ at.s _ _ _ _ h.1.0 h.0 at.invariant value c.lay.ensures
 
 pub returns : goal.returns
-returns c = rowed_done _ _ _ _ _ _ _ _ _ _ _ (omega arith) c.loop-s.invariant.1
+returns c = rowed_done _ _ _ _ _ _ _ _ _ _ _ (omega arith) c.loop-s.invariant

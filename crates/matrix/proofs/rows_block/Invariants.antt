@@ -1,10 +1,6 @@
 -- `rows_block` meets its contract: the first s rows are there.
-use Prim.Native.Nat.{◌-◌, ◌≤◌}
 use Rattle.matrix.specs.Sums.{Rowed}
 use Rattle.matrix.proofs.rows_block.Given as goal
 
 abbrev pub invariant-loop-s : goal.invariant-loop-s
-invariant-loop-s l = (l.s ≤ l.rows) × Rowed l.t l.es l.groups l.fresh l.count l.at l.w l.s l.initial.out l.out
-
-abbrev pub decreases-loop-s : goal.decreases-loop-s
-decreases-loop-s l = l.rows - l.s
+invariant-loop-s l = Rowed l.t l.es l.groups l.fresh l.count l.at l.w l.s l.initial.out l.out

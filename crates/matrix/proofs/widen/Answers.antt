@@ -1,11 +1,10 @@
 -- `widen` meets its contract: the first c sums are there.
 use native.Mathlib.Omega.{arith}
-use borrow.Author.Rules.{rules}
 use Rattle.matrix.proofs.Parts.{widened_start, widened_turn, widened_done}
 use Rattle.matrix.proofs.widen.Goals as goal
 
 pub loop-c-init : goal.loop-c-init
-loop-c-init c = (search rules, widened_start _ _ _ _)
+loop-c-init c = widened_start _ _ _ _
 
 pub loop-c-preserved : goal.loop-c-preserved
 loop-c-preserved c =
@@ -13,7 +12,7 @@ loop-c-preserved c =
     let at = c.loop-c in
     let sum = c.add.ensures in
     let put = c.put.ensures in
-    (search rules, widened_turn _ _ at.c _ _ _ _ _ _ more (omega arith) (omega arith) at.invariant.1 c.block-a.ensures sum put)
+    widened_turn _ _ at.c _ _ _ _ _ _ more (omega arith) (omega arith) at.invariant c.block-a.ensures sum put
 
 pub returns : goal.returns
-returns c = widened_done _ _ _ _ _ _ (omega arith) c.loop-c.invariant.1
+returns c = widened_done _ _ _ _ _ _ (omega arith) c.loop-c.invariant

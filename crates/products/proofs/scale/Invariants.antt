@@ -1,11 +1,8 @@
 -- `products::scale` meets its contract: after q turns the q first places are done.
-use Prim.Native.Nat.{ℕ, ◌-◌, ◌≤◌}
+use Prim.Native.Nat.{ℕ}
 use Rattle.field.specs.Field.{◌⊕◌, ◌⊗◌}
 use Rattle.lanes.proofs.Onto.{Turned}
 use Rattle.products.proofs.scale.Given as goal
 
 abbrev pub invariant-loop-q : goal.invariant-loop-q
-invariant-loop-q l = (l.q ≤ l.n) × Turned (λ (x y : ℕ). l.c ⊗ x ⊕ y) l.initial.a l.d l.a l.q
-
-abbrev pub decreases-loop-q : goal.decreases-loop-q
-decreases-loop-q l = l.n - l.q
+invariant-loop-q l = Turned (λ (x y : ℕ). l.c ⊗ x ⊕ y) l.initial.a l.d l.a l.q

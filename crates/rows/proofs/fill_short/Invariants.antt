@@ -1,12 +1,9 @@
 -- `fill_short` meets its contract: the rows below j are there.
-use Prim.Native.Nat.{◌*◌, ◌-◌, ◌≤◌}
+use Prim.Native.Nat.{◌*◌}
 use mathlib.Core.Path.{◌≡◌}
 use lib.ListN.{length}
 use Rattle.rows.specs.Rows.{RowsBelow}
 use Rattle.rows.proofs.fill_short.Given as goal
 
 abbrev pub invariant-loop-j : goal.invariant-loop-j
-invariant-loop-j l = (l.j ≤ l.r) × (length l.out ≡ l.r * l.l) × RowsBelow l.data l.k l.l l.j l.l l.out
-
-abbrev pub decreases-loop-j : goal.decreases-loop-j
-decreases-loop-j l = l.r - l.j
+invariant-loop-j l = (length l.out ≡ l.r * l.l) × RowsBelow l.data l.k l.l l.j l.l l.out

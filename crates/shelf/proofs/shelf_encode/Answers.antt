@@ -10,6 +10,6 @@ returns c = let e = c.encode in
     let a = c.args in
     let same = c.shape_of-s.ensures in
     record {
-      value = e.ensures.value ∙ ap (λ (s : Shape). encode_refusal s (length a.«data».now) (length a.parity.now)) same;
+      value = c.number.ensures ∙ e.ensures.value ∙ ap (λ (s : Shape). encode_refusal s (length a.«data».now) (length a.parity.now)) same;
       parity_after = e.ensures.parity_after ∙ ap (λ (s : Shape). encoded s a.«data».now a.parity.now) same;
     }

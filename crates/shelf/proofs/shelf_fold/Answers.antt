@@ -10,6 +10,6 @@ returns c = let e = c.fold in
     let a = c.args in
     let same = c.shape_of-s.ensures in
     record {
-      value = e.ensures.0 ∙ ap (λ (s : Shape). fold_verdict s a.stripes a.f (length a.read.now) (length a.parity.now)) same;
+      value = c.number.ensures ∙ e.ensures.0 ∙ ap (λ (s : Shape). fold_verdict s a.stripes a.f (length a.read.now) (length a.parity.now)) same;
       parity_after = e.ensures.1 ∙ ap (λ (s : Shape). fold_filled s a.stripes a.f a.read.now a.parity.now) same;
     }

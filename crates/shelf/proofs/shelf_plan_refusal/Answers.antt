@@ -8,4 +8,4 @@ pub returns : goal.returns
 returns c =
     let a = c.args in
     let same = c.shape_of-s.ensures in
-    c.fold_refusal.ensures ∙ ap (λ (s : Shape). fold_refusal s a.stripes a.f) same
+    c.number.ensures ∙ c.fold_refusal.ensures ∙ ap (λ (s : Shape). fold_refusal s a.stripes a.f) same

@@ -1,5 +1,5 @@
 -- `quadruple_add_two` meets its contract: after q turns the q first places are done.
-use Prim.Native.Nat.{ℕ, ◌-◌, ◌≤◌}
+use Prim.Native.Nat.{ℕ}
 use Rattle.field.specs.Field.{◌⊕◌, ◌⊗◌}
 use Rattle.lanes.specs.Lanes.{both}
 use Rattle.lanes.proofs.Onto.{Turned}
@@ -9,7 +9,4 @@ abbrev pub lower : ℕ → ℕ → ℕ
 lower y z = 4 ⊗ y ⊕ z
 
 abbrev pub invariant-loop-q : goal.invariant-loop-q
-invariant-loop-q l = (l.q ≤ l.n) × Turned (λ (x w : ℕ). 16 ⊗ x ⊕ w) l.initial.a (both lower l.d l.e) l.a l.q
-
-abbrev pub decreases-loop-q : goal.decreases-loop-q
-decreases-loop-q l = l.n - l.q
+invariant-loop-q l = Turned (λ (x w : ℕ). 16 ⊗ x ⊕ w) l.initial.a (both lower l.d l.e) l.a l.q

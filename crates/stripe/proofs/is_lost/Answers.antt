@@ -1,25 +1,12 @@
--- `is_lost` meets its contract: the position is among all where it is among those left.
-use mathlib.Core.Path.{sym, ◌∙◌}
-use native.Mathlib.Omega.{arith}
-use Rattle.stripe.proofs.Lost.{among_found, among_turn, among_none}
+-- `is_lost` meets its contract: the library's search of a list is the definition.
+use Rattle.std.proofs.Common.{◌∙◌, rules, tests, nat_eq}
+use Rattle.std.proofs.lemmas.Iterator.{YieldsList-from_slice}
+use Rattle.std.proofs.lemmas.Iterator.Search.{any_from_yields_List}
+use Rattle.stripe.proofs.Lost.{any_among}
 use Rattle.stripe.proofs.is_lost.Goals as goal
-
-pub overflow_cast-lost : goal.overflow_cast-lost
-overflow_cast-lost c = omega (arith, c.shared_slice_known-1.given c.loop-i.i)
-
-pub returns-then-lost-i : goal.returns-then-lost-i
-returns-then-lost-i c =
-    let a = c.args in
-    let l = c.loop-i in
-    sym (l.invariant ∙ among_found a.lost.now l.i a.c c.loop-i-test.true c.if-lost-i.true)
-
-pub loop-i-preserved : goal.loop-i-preserved
-loop-i-preserved c =
-    let a = c.args in
-    let l = c.loop-i in
-    l.invariant ∙ among_turn a.lost.now l.i a.c c.loop-i-test.true c.if-lost-i.false
 
 pub returns : goal.returns
 returns c =
-    let a = c.args in
-    sym (c.loop-i.invariant ∙ among_none a.lost.now c.loop-i.i a.c c.loop-i-test.false)
+    let es = c.args.lost.now in
+    any_from_yields_List (λ e. nat_eq c.args.c e) _ _ _ c.any.ensures.ran (YieldsList-from_slice es cc) (λ x b q k. search (rules, tests))
+    ∙ any_among c.args.c es

@@ -4,7 +4,6 @@ use mathlib.Core.Path.{◌∙◌, ap}
 use native.Mathlib.Nat.{mul-le-mul_right, suc-mul}
 use native.Mathlib.Omega.{arith}
 use lib.ListN.{length}
-use borrow.Author.Rules.{rules}
 use Rattle.field.specs.Field.{inverse_of}
 use Rattle.field.specs.Bytes.{Bytes}
 use Rattle.syndromes.proofs.Filling.{divided_0, divide_start, divide_turn, divide_done}
@@ -17,7 +16,7 @@ returns-then-x-eq0 c = divided_0 _ _ _ _ c.if-x-eq0.true (λ i. (c.slice_known-1
 pub loop-j-init : goal.loop-j-init
 loop-j-init c =
     let known : Bytes c.args.out.now = λ i. (c.slice_known-1.given i).fits in
-    (search rules, divide_start _ _ _ _ known, known)
+    (divide_start _ _ _ _ known, known)
 
 -- row j ends within the rows
 fits : (c : In-loop-j)
@@ -28,7 +27,7 @@ fits c =
       mul-le-mul_right c.args.s.l c.loop-j-test.true,
       suc-mul c.loop-j.j c.args.s.l,
       c.requires.0,
-      c.loop-j.invariant.1.long,
+      c.loop-j.invariant.0.long,
     )
 
 pub overflow_mul-a : goal.overflow_mul-a
@@ -48,24 +47,17 @@ slice_bounds-scale_all-start c = omega (arith, fits (goal.at.slice_bounds-scale_
 pub slice_bounds-scale_all-end : goal.slice_bounds-scale_all-end
 slice_bounds-scale_all-end c = omega (arith, fits (goal.at.slice_bounds-scale_all-end c).In-loop-j)
 
-pub overflow_add-j : goal.overflow_add-j
-overflow_add-j c = omega (arith, c.loop-j-test.true)
-
-pub loop-j-smaller : goal.loop-j-smaller
-loop-j-smaller c = omega (arith, c.loop-j-test.true)
-
 pub loop-j-preserved : goal.loop-j-preserved
 loop-j-preserved c =
     let at = c.loop-j in (
-      search rules,
-      divide_turn _ _ _ at.j _ _ _ _ at.invariant.1 at.invariant.2 (fits (goal.at.loop-j-preserved c).In-loop-j)
+      divide_turn _ _ _ at.j _ _ _ _ at.invariant.0 at.invariant.1 (fits (goal.at.loop-j-preserved c).In-loop-j)
           (c.inverse-c.ensures ∙ ap inverse_of c.power.ensures)
           c.scale_all.ensures,
       λ i. (c.slice_known-in-loop-j-1.given i).fits,
     )
 
 pub shape_of-out : goal.shape_of-out
-shape_of-out c = c.loop-j.invariant.1.long
+shape_of-out c = c.loop-j.invariant.0.long
 
 pub returns : goal.returns
-returns c = divide_done _ _ _ c.loop-j.j _ _ c.loop-j-test.false c.loop-j.invariant.1
+returns c = divide_done _ _ _ c.loop-j.j _ _ c.loop-j-test.false c.loop-j.invariant.0

@@ -1,19 +1,17 @@
 -- `eightfold_add` meets its contract: after q turns the q first places are done.
 use native.Mathlib.Omega.{arith}
 use mathlib.Core.Path.{refl, ap₂}
-use borrow.Author.Rules.{rules}
 use Rattle.field.specs.Field.{◌⊕◌}
 use Rattle.lanes.proofs.Onto.{start, turn, done}
 use Rattle.weights.proofs.eightfold_add.Goals as goal
 
 pub loop-q-init : goal.loop-q-init
-loop-q-init c = (search rules, start _ _ _)
+loop-q-init c = start _ _ _
 
 pub loop-q-preserved : goal.loop-q-preserved
 unfolding ◌⊕◌
 loop-q-preserved c =
-    let h = c.loop-q.invariant.1 in
-    (search rules, turn _ h (omega arith) (omega arith) (ap₂ ◌⊕◌ c.eightfold.ensures refl))
+    turn _ c.loop-q.invariant (omega arith) (omega arith) (ap₂ ◌⊕◌ c.eightfold.ensures refl)
 
 pub returns : goal.returns
-returns c = done c.loop-q.invariant.1 c.loop-q-test.false c.shorter-n.ensures.1.1
+returns c = done c.loop-q.invariant c.loop-q-test.false c.shorter-q-end.ensures.1.1

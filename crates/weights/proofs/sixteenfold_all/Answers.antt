@@ -1,5 +1,6 @@
 -- `sixteenfold_all` meets its contract: after q turns the q first places are done.
 use native.Mathlib.Omega.{arith}
+use native.Mathlib.Nat.{le_refl}
 use mathlib.Core.Path.{◌∙◌}
 use Prim.Native.Nat.{ℕ}
 use mathlib.Core.Logic.{inl}
@@ -7,26 +8,11 @@ use Rattle.field.specs.Field.{◌⊗◌}
 use Rattle.lanes.proofs.Onto.{start, turn, done, onto-map}
 use Rattle.weights.proofs.sixteenfold_all.Goals as goal
 
-pub loop-q-init : goal.loop-q-init
-loop-q-init c = start _ _ _
+pub loop-x-init : goal.loop-x-init
+loop-x-init c = start _ _ _
 
-pub loop-q-smaller : goal.loop-q-smaller
-loop-q-smaller c =
-    let l = c.loop-q in
-    let t = c.loop-q-test.true in
-    let e = l.invariant.long in
-    omega arith
-
-pub loop-q-preserved : goal.loop-q-preserved
-loop-q-preserved c =
-    let l = c.loop-q in
-    let t = c.loop-q-test.true in
-    let e = l.invariant.long in
-    turn _ l.invariant t (omega arith) c.sixteenfold.ensures
+pub loop-x-preserved : goal.loop-x-preserved
+loop-x-preserved c = turn _ c.loop-x.invariant (omega arith) c.loop-x-test.true c.sixteenfold.ensures
 
 pub returns : goal.returns
-returns c =
-    let l = c.loop-q in
-    let t = c.loop-q-test.false in
-    let e = l.invariant.long in
-    done {n = l.q} l.invariant (omega arith) (inl (omega arith)) ∙ onto-map (λ (x : ℕ). 16 ⊗ x) _
+returns c = done c.loop-x.invariant c.loop-x-test.false (inl (le_refl _)) ∙ onto-map (λ (x : ℕ). 16 ⊗ x) _

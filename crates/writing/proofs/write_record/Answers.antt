@@ -1,30 +1,21 @@
 -- `write_record` meets its contract: what was judged is reported, and the record is put where it is lawful.
-use mathlib.Core.Path.{sym, ◌∙◌}
-use lib.ListN.{length}
-use Rattle.writing.proofs.Putting.{number_says, out_stays, out_put}
+use mathlib.Core.Path.{sym}
+use Rattle.writing.proofs.Putting.{write_refused, write_accepted}
 use Rattle.writing.proofs.write_record.Goals as goal
 
-pub returns-then-written-ne0 : goal.returns-then-written-ne0
-returns-then-written-ne0 c = let a = c.args in
-    let xs = a.stripe.now in
-    let es = a.lost.now in
-    let j = c.judge_writing-written in
-    let n = number_says a.s xs es (length a.out.now) j.result j.ensures in
-    record { value = j.ensures; out_after = out_stays a.s xs es a.out.now (λ z. c.if-written-ne0.true (n ∙ z)) }
+pub returns-in_err-length : goal.returns-in_err-length
+returns-in_err-length c =
+    let a = c.args in
+    let e = c.in_err-length in
+    let both = write_refused a.s a.stripe.now a.lost.now a.out.now _ e.field-0.0 c.from_residual.ensures.1 e.ensures.refusal in
+    record { value = both.0; out_after = both.1 }
 
 pub put_record-requires : goal.put_record-requires
-put_record-requires c =
-    let a = c.args in
-    let xs = a.stripe.now in
-    let es = a.lost.now in
-    let j = c.judge_writing-written in
-    let n = number_says a.s xs es (length a.out.now) j.result j.ensures in
-    sym n ∙ c.if-written-ne0.false
+put_record-requires c = sym c.in_ok-length.ensures.refusal
 
 pub returns : goal.returns
-returns c = let a = c.args in
-    let xs = a.stripe.now in
-    let es = a.lost.now in
-    let j = c.judge_writing-written in
-    let n = number_says a.s xs es (length a.out.now) j.result j.ensures in
-    record { value = j.ensures; out_after = c.put_record.ensures ∙ out_put a.s xs es a.out.now (sym n ∙ c.if-written-ne0.false) }
+returns c =
+    let a = c.args in
+    let w = c.in_ok-length.ensures in
+    let both = write_accepted a.s a.stripe.now a.lost.now a.out.now _ _ (sym w.refusal) w.ok c.put_record.ensures in
+    record { value = both.0; out_after = both.1 }

@@ -1,83 +1,45 @@
--- `all_windows` meets its contract: what is kept is found at the first p places of each column.
-use Prim.Native.Nat.{◌+◌, ◌-◌, ◌*◌, ◌≤◌}
-use mathlib.Core.Path.{◌∙◌}
+-- `all_windows` meets its contract: what is kept is found at the places of each column that the windows so far hold.
+use mathlib.Core.Path.{subst}
+use Prim.Native.Nat.{ℕ, ◌*◌, ◌<◌}
 use native.Mathlib.Omega.{arith}
+use Rattle.stripe.specs.Stripe.{parity}
 use Rattle.stripe.proofs.Places.{parity-length}
 use Rattle.stripe.proofs.Lent.{lent}
-use Rattle.matrix.proofs.Blocks.{least_some}
-use Rattle.coding.proofs.ByPoints.{pointed, front_length}
-use Rattle.checking.proofs.Windows.{lent_long, lent_most, window_most, windows_none, windows_done}
-use borrow.Author.Rules.{rules}
-use borrow.Rule.Slice.PartMut.{same_len_mid}
+use Rattle.coding.proofs.ByPoints.{Pointed, pointed}
+use Rattle.checking.specs.Windows.{Below}
+use Rattle.checking.proofs.Windows.{lent_long, lent_most, windows_none, windows_done, window_starts, windows_end}
 use Rattle.checking.proofs.by_points.all_windows.Goals as goal
-use Rattle.checking.proofs.by_points.all_windows.Goals.{After-shorter-n}
+use Rattle.checking.proofs.by_points.all_windows.Goals.{After-min-n, Start}
+
+numbers : (c : Start) → Pointed c.args.lent.now.shape
+numbers c = let a = c.args.lent.now in pointed a.shape (lent a.shape _ _ a.allowed).shape c.requires.0
 
 pub step-most-requires : goal.step-most-requires
-step-most-requires c =
-    let a = pointed c.args.s (lent c.args.s _ _ c.requires.0).shape c.requires.1.0 in
-    (a.parity_some, a.few)
+step-most-requires c = let a = numbers (goal.at.step-most-requires c).Start in (a.parity_some, a.few)
 
 pub overflow_mul-b : goal.overflow_mul-b
-overflow_mul-b c = omega (arith, lent_most c.args.s _ _ c.requires.0)
+overflow_mul-b c = omega (arith, lent_most c.args.lent.now.shape _ _ c.args.lent.now.allowed)
 
-pub loop-p-init : goal.loop-p-init
-loop-p-init c = (search rules, search rules, windows_none _ _ _ _)
+pub loop-i-init : goal.loop-i-init
+loop-i-init c =
+    let a = c.args.lent.now in
+    let made = parity a.shape a.«data».now in
+    subst (λ (p : ℕ). Below a.shape.l (a.shape.r * a.shape.l) p a.parity.now made (a.shape.r * a.shape.l)) (omega arith) (windows_none _ _ _ _)
 
--- a window is not empty, ends within the columns, and fits
-some : (c : After-shorter-n) → 1 ≤ c.shorter-n.result
-some c =
-    least_some _ _ _ c.step-most.ensures.0 (omega (arith, c.loop-p-test.true)) c.shorter-n.ensures.1.1
+-- a window starts within the columns
+starts : (c : After-min-n) → c.loop-i.i * c.step-most.result < c.args.lent.now.shape.l
+starts c = window_starts _ _ _ c.step-most.ensures.0 (omega arith)
 
-ends : (c : After-shorter-n) → let s = c.args.s in
-    c.loop-p.p + c.shorter-n.result ≤ s.l
-ends c = omega (arith, c.loop-p-test.true, c.shorter-n.ensures.1.0)
-
-few : (c : After-shorter-n) → let s = c.args.s in
-    s.r * c.shorter-n.result ≤ 2048
-few c = window_most _ _ _ c.shorter-n.ensures.0 c.step-most.ensures.1
-
-pub overflow_mul-m : goal.overflow_mul-m
-overflow_mul-m c = omega (arith, window_most _ _ _ c.shorter-n.ensures.0 c.step-most.ensures.1)
-
-pub slice_bounds-made-end : goal.slice_bounds-made-end
-slice_bounds-made-end c = omega (arith, few c, c.loop-p.invariant.1)
-
-pub window-b-requires : goal.window-b-requires
-window-b-requires c =
-    let h = c.requires.1 in (
-      c.requires.0,
-      (
-        h.0,
-        (
-          h.1.0,
-          (
-            h.1.1,
-            (
-              some (goal.at.window-b-requires c).After-shorter-n,
-              (
-                ends (goal.at.window-b-requires c).After-shorter-n,
-                front_length _ _ (omega (arith, few (goal.at.window-b-requires c).After-shorter-n, c.loop-p.invariant.1)),
-              ),
-            ),
-          ),
-        ),
-      ),
-    )
-
-pub overflow_add-p : goal.overflow_add-p
-overflow_add-p c =
-    omega (arith, ends (goal.at.overflow_add-p c).After-shorter-n, (pointed c.args.s (lent c.args.s _ _ c.requires.0).shape c.requires.1.0).length_most)
-
-pub loop-p-smaller : goal.loop-p-smaller
-loop-p-smaller c = omega (arith, ends (goal.at.loop-p-smaller c).After-shorter-n, some (goal.at.loop-p-smaller c).After-shorter-n)
-
-pub loop-p-preserved : goal.loop-p-preserved
-loop-p-preserved c =
-    let loop = c.loop-p in
-    let m = c.args.s.r * c.shorter-n.result in
-    let same = same_len_mid 0 (m - 0) loop.made c.window-b.new.made c.made-in-loop-p-1.given in
-    (ends (goal.at.loop-p-preserved c).After-shorter-n, same ∙ loop.invariant.1, c.window-b.ensures loop.invariant.2)
+pub loop-i-preserved : goal.loop-i-preserved
+loop-i-preserved c =
+    let a = c.args.lent.now in
+    let kept : ℕ → ℕ → Type 0 = λ p b. Below a.shape.l (a.shape.r * a.shape.l) p a.parity.now (parity a.shape a.«data».now) b in
+    let h = starts (goal.at.loop-i-preserved c).After-min-n in
+    subst (λ (p : ℕ). kept p c.window-b.result) (omega arith)
+    (c.window-b.ensures (subst (λ (p : ℕ). kept p c.loop-i.b) (omega arith) c.loop-i.invariant))
 
 pub returns : goal.returns
 returns c =
-    windows_done _ _ _ _ _ _ c.loop-p-test.false (lent_long c.args.s _ _ c.requires.0) (parity-length c.args.s _) c.loop-p.invariant.2
+    let a = c.args.lent.now in
+    let end = windows_end _ _ _ c.step-most.ensures.0 (omega arith) in
+    windows_done _ _ _ _ _ _ end (lent_long a.shape _ _ a.allowed) (parity-length a.shape _) c.loop-i.invariant

@@ -7,15 +7,14 @@ use Rattle.checking.proofs.by_points.window.Goals as goal
 
 pub all_rows-requires : goal.all_rows-requires
 all_rows-requires c =
+    let a = c.args.lent.now in
     let zs = c.apply.new.out in
-    let same : length zs ≡ length c.args.made.now = search rules in (
-      lent_long c.args.s _ _ c.requires.0,
-      (same ∙ c.requires.1.1.1.1.1.1, (c.requires.1.1.1.1.1.0, lent_most c.args.s _ _ c.requires.0)),
-    )
+    let same : length zs ≡ length c.args.made.now = search rules in
+    (lent_long a.shape _ _ a.allowed, (same ∙ c.requires.1.1.1.1.1, (c.requires.1.1.1.1.0, lent_most a.shape _ _ a.allowed)))
 
 pub returns : goal.returns
 returns c =
-    let a = c.args in
-    let h = c.requires.1.1.1.1 in
-    let made = window_made a.s a.«data».now a.lent.now c.requires.0 c.requires.1.0 a.p a.n h.0 h.1.0 in
-    λ k. c.all_rows.ensures _ (made _ _ _ _ c.requires.1.1.0 c.requires.1.1.1.0 h.1.1 c.apply.ensures) k
+    let a = c.args.lent.now in
+    let h = c.requires.1.1.1 in
+    let made = window_made a.shape a.«data».now a.parity.now a.allowed c.requires.0 c.args.p c.args.n h.0 h.1.0 in
+    λ k. c.all_rows.ensures _ (made _ _ _ _ c.requires.1.0 c.requires.1.1.0 h.1.1 c.apply.ensures) k

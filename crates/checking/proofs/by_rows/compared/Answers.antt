@@ -11,13 +11,12 @@ use Rattle.checking.proofs.by_rows.compared.Goals as goal
 pub difference-requires : goal.difference-requires
 difference-requires c =
     let same : length c.encode_by_rows.new.parity ≡ length c.args.made.now = search rules in
-    sym (same ∙ c.requires.1.1)
+    sym (same ∙ c.requires.1)
 
 pub returns : goal.returns
 returns c =
-    let a = c.args in
-    let few = rows_most a.s (allowed a.s (lent a.s _ _ c.requires.0).shape) c.requires.1.0 in
-    let encode = c.encode_by_rows in
-    let e = made a.s a.«data».now a.lent.now a.made.now _ c.requires.0 c.requires.1.1
-    (encode.ensures ∙ encoded_by_rows_lem a.s a.«data».now a.made.now few) in
-    c.difference.ensures ∙ ap (first_difference a.lent.now) e
+    let a = c.args.lent.now in
+    let few = rows_most a.shape (allowed a.shape (lent a.shape _ _ a.allowed).shape) c.requires.0 in
+    let e = made a.shape a.«data».now a.parity.now c.args.made.now _ a.allowed c.requires.1
+    (c.encode_by_rows.ensures ∙ encoded_by_rows_lem a.shape a.«data».now c.args.made.now few) in
+    c.difference.ensures ∙ ap (first_difference a.parity.now) e

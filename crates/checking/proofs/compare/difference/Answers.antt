@@ -5,6 +5,3 @@ use Rattle.checking.proofs.compare.difference.Goals as goal
 
 pub returns-then-same : goal.returns-then-same
 returns-then-same c = sym (agree_first _ _ c.requires (sym c.same.ensures ∙ c.if-same.true))
-
-pub returns : goal.returns
-returns c = c.first_difference.ensures

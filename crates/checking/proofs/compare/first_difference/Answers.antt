@@ -1,18 +1,18 @@
--- `first_difference` meets its contract: all before q agrees.
-use native.Mathlib.Nat.{zero-add}
-use native.Mathlib.Omega.{arith}
-use borrow.Author.Rules.{rules}
-use Rattle.checking.proofs.Comparing.{first_turn, first_found, first_done}
+-- `first_difference` meets its contract: it is the first place at which the two differ.
+use mathlib.Core.Path.{◌≡◌, ap₂, ◌∙◌}
+use mathlib.Core.Bool.{not}
+use lib.Dec.{eqb}
+use Rattle.std.proofs.Common.{rules, tests}
+use Rattle.std.proofs.lemmas.Iterator.{YieldsList-from_slice, YieldsList-from_zip}
+use Rattle.std.proofs.lemmas.Iterator.Search.{position_from_yields_List}
+use Rattle.std.specs.List.{zip, position}
+use Rattle.std.specs.Option.{unwrap_or}
+use Rattle.checking.proofs.Comparing.{first_position}
 use Rattle.checking.proofs.compare.first_difference.Goals as goal
 
-pub loop-q-init : goal.loop-q-init
-loop-q-init c = (search rules, zero-add _)
-
-pub returns-then-a-q : goal.returns-then-a-q
-returns-then-a-q c = first_found _ _ _ (omega arith) (omega arith) c.if-a-q.true c.loop-q.invariant.1
-
-pub loop-q-preserved : goal.loop-q-preserved
-loop-q-preserved c = (search rules, first_turn _ _ _ (omega arith) (omega arith) c.if-a-q.false c.loop-q.invariant.1)
-
 pub returns : goal.returns
-returns c = first_done _ _ _ _ c.loop-q-test.false c.shorter-n.ensures.1.1 c.loop-q.invariant.1
+returns c =
+    let e : c.position.result ≡ position (λ p. not (eqb p.0 p.1)) (zip c.args.a.now c.args.d.now) =
+    position_from_yields_List (λ p. not (eqb p.0 p.1)) c.position.new.self _ c.position.result c.position.ensures.ran
+    (YieldsList-from_zip (YieldsList-from_slice c.args.a.now cc) (YieldsList-from_slice c.args.d.now cc)) (λ x b q k. search (rules, tests)) in
+    c.unwrap_or.ensures ∙ ap₂ unwrap_or e c.min.ensures ∙ first_position _ _

@@ -1,18 +1,18 @@
--- `same` meets its contract: z is 0 so far exactly where all before q agrees.
-use mathlib.Core.Path.{refl}
-use native.Mathlib.Omega.{arith}
-use borrow.Author.Rules.{rules}
-use Rattle.checking.proofs.Comparing.{same_turn, same_done}
+-- `same` meets its contract: the places that differ leave something in the fold.
+use mathlib.Core.Path.{◌≡◌, ap, ◌∙◌}
+use Prim.Native.Nat.{ℕ}
+use lib.Bits.{bit_or, bit_xor}
+use lib.Dec.{eqb}
+use Rattle.std.proofs.Common.{rules, tests}
+use Rattle.std.proofs.lemmas.Iterator.{YieldsList-from_slice, YieldsList-from_zip}
+use Rattle.std.proofs.lemmas.Iterator.Consumers.{fold_from_yields_List}
+use Rattle.std.specs.List.{fold, zip}
+use Rattle.checking.proofs.Comparing.{fold_agree}
 use Rattle.checking.proofs.compare.same.Goals as goal
 
-pub loop-q-init : goal.loop-q-init
-loop-q-init c = (search rules, refl)
-
-pub loop-q-preserved : goal.loop-q-preserved
-loop-q-preserved c =
-    let loop = c.loop-q in
-    let a = c.args in
-    (search rules, same_turn a.a.now a.d.now loop.z loop.q (omega arith) (omega arith) loop.invariant.1)
-
 pub returns : goal.returns
-returns c = same_done _ _ c.loop-q.z _ _ c.loop-q-test.false c.shorter-n.ensures.1.1 c.loop-q.invariant.1
+returns c =
+    let e : c.fold.result ≡ fold (λ z p. bit_or z (bit_xor p.0 p.1)) 0 (zip c.args.a.now c.args.d.now) =
+    fold_from_yields_List _ (λ z p. bit_or z (bit_xor p.0 p.1)) 0 c.fold.result c.fold.ensures.ran
+    (YieldsList-from_zip (YieldsList-from_slice c.args.a.now cc) (YieldsList-from_slice c.args.d.now cc)) (λ z x b q k. search (rules, tests)) in
+    ap (λ (z : ℕ). eqb z 0) e ∙ fold_agree _ _ 0

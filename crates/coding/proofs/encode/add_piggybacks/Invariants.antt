@@ -1,5 +1,4 @@
 -- `add_piggybacks` meets its contract: the columns before i are parity, the others are rows.
-use Prim.Native.Nat.{◌-◌, ◌≤◌}
 use mathlib.Core.Path.{◌≡◌}
 use lib.ListN.{length}
 use Rattle.coding.specs.Encode.{encode_refusal}
@@ -7,7 +6,4 @@ use Rattle.coding.proofs.Piggyback.{Half}
 use Rattle.coding.proofs.encode.add_piggybacks.Given as goal
 
 abbrev pub invariant-loop-i : goal.invariant-loop-i
-invariant-loop-i l = (l.i ≤ l.s.r) × (length l.out ≡ length l.initial.out) × (encode_refusal l.s (length l.data) (length l.out) ≡ 0) × Half l.s l.data l.i l.out
-
-abbrev pub decreases-loop-i : goal.decreases-loop-i
-decreases-loop-i l = l.s.r - l.i
+invariant-loop-i l = (length l.out ≡ length l.initial.out) × (encode_refusal l.s (length l.data) (length l.out) ≡ 0) × Half l.s l.data l.i l.out

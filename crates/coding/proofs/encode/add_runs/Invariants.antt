@@ -1,5 +1,5 @@
 -- `add_runs` meets its contract: the runs before j have their piggybacks.
-use Prim.Native.Nat.{ℕ, ◌*◌, ◌-◌, ◌≤◌}
+use Prim.Native.Nat.{ℕ, ◌*◌, ◌≤◌}
 use mathlib.Core.Path.{◌≡◌}
 use Rattle.stripe.specs.declared.Shape.{Shape}
 use Rattle.stripe.specs.Stripe.{run_length}
@@ -14,6 +14,3 @@ abbrev pub invariant-loop-j : goal.invariant-loop-j
 invariant-loop-j l =
     (l.r ≤ l.j) × (l.j ≤ l.t) × (l.m ≡ run_length (shape l.k l.r l.t l.l)) × Piggybacked (shape l.k l.r l.t l.l) l.data l.i (l.j * l.m) l.out
     × Beside l.l l.i l.initial.out l.out
-
-abbrev pub decreases-loop-j : goal.decreases-loop-j
-decreases-loop-j l = l.t - l.j

@@ -1,6 +1,6 @@
 -- `Gf::inverse` meets its contract: of zero it is zero, and of any other byte Euclid's algorithm runs to the inverse.
 use mathlib.Core.Path.{sym, ap, ◌∙◌, subst}
-use Prim.Native.Nat.{ℕ, ◌+◌, ◌*◌, ◌<◌}
+use Prim.Native.Nat.{ℕ, ◌+◌, ◌*◌, ◌/◌, ◌<◌}
 use native.Mathlib.Nat.{lt_trans}
 use native.Mathlib.Omega.{arith}
 use borrow.Author.Rules.{rules}
@@ -15,10 +15,11 @@ returns-then-self-eq0 c = c.if-self-eq0.true ∙ sym (ap inverse_of c.if-self-eq
 
 pub loop-v-init : goal.loop-v-init
 loop-v-init c =
-    let a = c.wide.result in
+    let a = c.from.result in
     let h : a < 256 = search rules in
     let p : 0 < a = search rules in
-    (search rules, (omega arith, subst (λ (x : ℕ). Runs x (polynomial * 65536) (a * 65536 + 1)) (sym (high a)) (runs_start a p h)))
+    let start = subst (λ (x : ℕ). Runs x (polynomial * 65536) (a * 65536 + 1)) (sym (high a)) (runs_start a p h) in
+    (search rules, (omega arith, subst (λ (g : ℕ). Runs ((a * 65536 + 1) / 65536) (g * 65536) (a * 65536 + 1)) (sym c.from-u.ensures) start))
 
 pub loop-v-smaller : goal.loop-v-smaller
 loop-v-smaller c =
@@ -32,8 +33,8 @@ loop-v-preserved c =
 pub returns : goal.returns
 returns c =
     let l = c.loop-v in
-    let a = c.wide.result in
+    let a = c.from.result in
     let h : a < 256 = search rules in
     let p : 0 < a = search rules in
     runs_done a l.u l.v p h (search rules) (subst (λ (x : ℕ). Runs x l.u l.v) (high a) l.invariant.1.1)
-    ∙ ap inverse_of c.wide.ensures
+    ∙ ap inverse_of c.from.ensures

@@ -3,7 +3,6 @@ use Prim.Native.Nat.{◌+◌, ◌-◌, ◌*◌, ◌≤◌}
 use mathlib.Core.Path.{◌≡◌}
 use native.Mathlib.Omega.{arith}
 use lib.ListN.{length, take, drop}
-use borrow.Author.Rules.{rules}
 use Rattle.plan.proofs.Bounds.{fits}
 use Rattle.fold.proofs.WideRows.{row_room, room_long, rows_start, rows_turn, rows_done, exponent_small, row_lies}
 use Rattle.fold.proofs.plain.fill_plain.Goals as goal
@@ -12,14 +11,14 @@ use Rattle.fold.proofs.plain.fill_plain.Goals.{In-loop-j}
 -- row j lies within the parity
 room : (c : In-loop-j) → let l = c.args.s.l in
     c.loop-j.j * l + l ≤ length c.loop-j.parity
-room c = row_room _ _ _ _ _ _ c.loop-j-test.true _ c.loop-j.invariant.1
+room c = row_room _ _ _ _ _ _ c.loop-j-test.true _ c.loop-j.invariant
 
 length-here : (c : In-loop-j) → let l = c.args.s.l in let a = c.loop-j.j * l in
     length (take (a + l - a) (drop a c.loop-j.parity)) ≡ l
-length-here c = room_long _ _ _ _ _ _ c.loop-j-test.true _ c.loop-j.invariant.1
+length-here c = room_long _ _ _ _ _ _ c.loop-j-test.true _ c.loop-j.invariant
 
 pub loop-j-init : goal.loop-j-init
-loop-j-init c = (search rules, rows_start _ _ _ c.args.d.now c.args.parity.now c.requires)
+loop-j-init c = rows_start _ _ _ c.args.d.now c.args.parity.now c.requires
 
 pub overflow_mul-a : goal.overflow_mul-a
 overflow_mul-a c = fits _ (omega (arith, room c))
@@ -47,11 +46,11 @@ fill_row-requires c =
 pub loop-j-preserved : goal.loop-j-preserved
 loop-j-preserved c =
     let at = c.loop-j in
-    (search rules, rows_turn _ _ _ _ _ _ c.loop-j-test.true at.parity at.invariant.1 _ c.fill_row.ensures)
+    rows_turn _ _ _ _ _ _ c.loop-j-test.true at.parity at.invariant _ c.fill_row.ensures
 
 pub shape_of-parity : goal.shape_of-parity
-shape_of-parity c = omega (arith, c.loop-j.invariant.1.long, c.requires.parity_long)
+shape_of-parity c = omega (arith, c.loop-j.invariant.long, c.requires.parity_long)
 
 pub returns : goal.returns
 returns c =
-    rows_done _ _ _ c.args.d.now c.args.parity.now c.requires _ _ c.loop-j-test.false c.loop-j.invariant.1
+    rows_done _ _ _ c.args.d.now c.args.parity.now c.requires _ _ c.loop-j-test.false c.loop-j.invariant

@@ -1,10 +1,6 @@
 -- `fill_plain` meets its contract: the first j rows are there.
-use Prim.Native.Nat.{◌-◌, ◌≤◌}
 use Rattle.fold.proofs.WideRows.{RowsTo}
 use Rattle.fold.proofs.plain.fill_plain.Given as goal
 
 abbrev pub invariant-loop-j : goal.invariant-loop-j
-invariant-loop-j l = (l.j ≤ l.f) × RowsTo l.k l.l l.n l.f l.d l.j l.parity
-
-abbrev pub decreases-loop-j : goal.decreases-loop-j
-decreases-loop-j l = l.f - l.j
+invariant-loop-j l = RowsTo l.k l.l l.n l.f l.d l.j l.parity

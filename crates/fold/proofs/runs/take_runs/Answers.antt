@@ -4,7 +4,6 @@ use Prim.Native.Nat.{ℕ, ◌*◌, ◌/◌, ◌≤◌}
 use native.Mathlib.Nat.{mul-le-mul}
 use native.Mathlib.Omega.{arith}
 use lib.ListN.{length}
-use borrow.Author.Rules.{rules}
 use Rattle.stripe.proofs.Allowed.{allowed}
 use Rattle.stripe.specs.Shape.{most_rows}
 use Rattle.lanes.proofs.Parts.{part_length}
@@ -20,11 +19,9 @@ overflow_mul-all c =
     fits _ (omega (arith, mul-le-mul {n₂ = most_rows} (new_few c.args.s c.args.f c.requires.0.shape c.requires.0.new c.requires.0.rows) r))
 
 pub loop-i-init : goal.loop-i-init
-loop-i-init c = (
-  search rules,
-  take_start c.args.s c.args.f c.requires.0 c.args.first c.args.d.now c.args.rows.now c.args.parity.now c.requires.1.1.0
-      c.requires.1.1.1,
-)
+loop-i-init c =
+    take_start c.args.s c.args.f c.requires.0 c.args.first c.args.d.now c.args.rows.now c.args.parity.now c.requires.1.1.0
+    c.requires.1.1.1
 
 pub overflow_mul-a : goal.overflow_mul-a
 overflow_mul-a c =
@@ -35,7 +32,7 @@ overflow_mul-a c =
     fits _ (omega (
       arith,
       cut_in c.args.s c.args.f c.requires.0 c.args.first c.args.d.now c.args.rows.now c.args.parity.now c.requires.1.1.0 _ _ ce qe
-          l.i t (length l.parity) l.invariant.1.long,
+          l.i t (length l.parity) l.invariant.long,
     ))
 
 pub overflow_add-e : goal.overflow_add-e
@@ -47,7 +44,7 @@ overflow_add-e c =
     fits _ (omega (
       arith,
       cut_in c.args.s c.args.f c.requires.0 c.args.first c.args.d.now c.args.rows.now c.args.parity.now c.requires.1.1.0 _ _ ce qe
-          l.i t (length l.parity) l.invariant.1.long,
+          l.i t (length l.parity) l.invariant.long,
     ))
 
 pub nonzero_div-j : goal.nonzero_div-j
@@ -88,7 +85,7 @@ slice_bounds-take_share-end c =
     omega (
       arith,
       cut_in c.args.s c.args.f c.requires.0 c.args.first c.args.d.now c.args.rows.now c.args.parity.now c.requires.1.1.0 _ _ ce qe
-          l.i t (length l.parity) l.invariant.1.long,
+          l.i t (length l.parity) l.invariant.long,
     )
 
 pub overflow_mul-j : goal.overflow_mul-j
@@ -111,35 +108,23 @@ take_share-requires c =
     let t = c.loop-i-test.true in
     cut_within c.args.s c.args.f c.requires.0 c.args.first c.args.d.now c.args.rows.now c.args.parity.now c.requires.1.1.0 _ _ ce
     qe l.i t _ _ _ _ c.share_of-share.ensures (part_length l.parity _ _ (cut_in c.args.s c.args.f c.requires.0 c.args.first
-    c.args.d.now c.args.rows.now c.args.parity.now c.requires.1.1.0 _ _ ce qe l.i t (length l.parity) l.invariant.1.long))
+    c.args.d.now c.args.rows.now c.args.parity.now c.requires.1.1.0 _ _ ce qe l.i t (length l.parity) l.invariant.long))
     c.requires.1.0 c.requires.1.1.0.long
-
-pub overflow_add-i : goal.overflow_add-i
-overflow_add-i c =
-    let t = c.loop-i-test.true in
-    let a = allowed _ c.requires.0.shape in
-    let r = subst (λ (x : ℕ). x ≤ most_rows) (sym c.runs-cut.ensures) a.runs_most in
-    fits _ (omega (arith, t, mul-le-mul {n₂ = most_rows} (new_few c.args.s c.args.f c.requires.0.shape c.requires.0.new c.requires.0.rows) r))
-
-pub loop-i-smaller : goal.loop-i-smaller
-loop-i-smaller c = let t = c.loop-i-test.true in omega (arith, t)
 
 pub loop-i-preserved : goal.loop-i-preserved
 loop-i-preserved c =
     let ce = c.runs-cut.ensures in
     let qe = c.run_length-q.ensures in
     let l = c.loop-i in
-    let t = c.loop-i-test.true in (
-      omega (arith, t),
-      cut_turn c.args.s c.args.f c.requires.0 c.args.first c.args.d.now c.args.rows.now c.args.parity.now c.requires.1.1.0 _ _ ce
-          qe l.i t l.parity _ _ c.share_of-share.ensures l.invariant.1 c.take_share.ensures,
-    )
+    let t = c.loop-i-test.true in
+    cut_turn c.args.s c.args.f c.requires.0 c.args.first c.args.d.now c.args.rows.now c.args.parity.now c.requires.1.1.0 _ _ ce
+    qe l.i t l.parity _ _ c.share_of-share.ensures l.invariant c.take_share.ensures
 
 pub shape_of-parity : goal.shape_of-parity
-shape_of-parity c = omega (arith, c.loop-i.invariant.1.long, c.requires.1.1.1)
+shape_of-parity c = omega (arith, c.loop-i.invariant.long, c.requires.1.1.1)
 
 pub returns : goal.returns
 returns c =
     let ce = c.runs-cut.ensures in
     take_done c.args.s c.args.f c.requires.0 c.args.first c.args.d.now c.args.rows.now c.args.parity.now c.requires.1.1.0 _ _
-    (subst (λ (x : ℕ). c.args.f * x ≤ c.loop-i.i) ce c.loop-i-test.false) c.loop-i.invariant.1
+    (subst (λ (x : ℕ). c.args.f * x ≤ c.loop-i.i) ce c.loop-i-test.false) c.loop-i.invariant

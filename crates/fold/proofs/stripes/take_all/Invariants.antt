@@ -1,6 +1,6 @@
 -- `take_all` meets its contract: after the stripes from l on, the parity is their sum.
 use mathlib.Core.Path.{◌≡◌}
-use Prim.Native.Nat.{◌*◌, ◌<◌, ◌≤◌}
+use Prim.Native.Nat.{◌*◌, ◌<◌}
 use lib.ListN.{length}
 use Rattle.fold.specs.Fold.{part_bytes}
 use Rattle.fold.proofs.Summing.{from}
@@ -8,7 +8,4 @@ use Rattle.fold.proofs.stripes.take_all.Given as goal
 
 abbrev pub invariant-loop-l : goal.invariant-loop-l
 invariant-loop-l l =
-    (l.l ≤ l.n) × ((length l.rows ≡ l.f * part_bytes l.s) × ((length l.parity ≡ l.f * l.s.l) × (l.l < l.n → l.parity ≡ from l.s l.f l.each l.n l.d l.l)))
-
-abbrev pub decreases-loop-l : goal.decreases-loop-l
-decreases-loop-l l = l.l
+    (length l.rows ≡ l.f * part_bytes l.s) × ((length l.parity ≡ l.f * l.s.l) × (l.l < l.n → l.parity ≡ from l.s l.f l.each l.n l.d l.l))

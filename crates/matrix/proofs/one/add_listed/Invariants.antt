@@ -1,10 +1,6 @@
 -- `add_listed` meets its contract: the first j columns of the list are in.
-use Prim.Native.Nat.{◌-◌, ◌≤◌}
 use Rattle.matrix.proofs.Listing.{Added}
 use Rattle.matrix.proofs.one.add_listed.Given as goal
 
 abbrev pub invariant-loop-j : goal.invariant-loop-j
-invariant-loop-j l = (l.j ≤ l.n) × Added l.columns l.ls l.from l.stride l.at l.w l.j l.initial.y l.y
-
-abbrev pub decreases-loop-j : goal.decreases-loop-j
-decreases-loop-j l = l.n - l.j
+invariant-loop-j l = Added l.columns l.ls l.from l.stride l.at l.w l.j l.initial.y l.y

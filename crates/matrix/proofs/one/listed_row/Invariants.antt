@@ -1,5 +1,5 @@
 -- `listed_row` meets its contract: Horner's rule over the bits from b on.
-use Prim.Native.Nat.{ℕ, ◌*◌, ◌-◌, ◌<◌, ◌≤◌}
+use Prim.Native.Nat.{ℕ, ◌*◌, ◌-◌, ◌<◌}
 use mathlib.Core.Path.{◌≡◌}
 use lib.ListN.{get_or}
 use Rattle.matrix.specs.Sums.{fall}
@@ -8,7 +8,4 @@ use Rattle.matrix.proofs.one.listed_row.Given as goal
 
 abbrev pub invariant-loop-b : goal.invariant-loop-b
 invariant-loop-b l =
-    (l.b ≤ 8) × ((q : ℕ) → q < l.w → get_or l.y q 0 ≡ fall (8 - l.b) l.b (λ d. listed l.columns l.from l.stride l.ls (d * 256) (get_or l.ns d 0) q))
-
-abbrev pub decreases-loop-b : goal.decreases-loop-b
-decreases-loop-b l = l.b
+    (q : ℕ) → q < l.w → get_or l.y q 0 ≡ fall (8 - l.b) l.b (λ d. listed l.columns l.from l.stride l.ls (d * 256) (get_or l.ns d 0) q)

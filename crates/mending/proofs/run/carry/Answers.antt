@@ -13,7 +13,7 @@ pub returns-then-b-r : goal.returns-then-b-r
 returns-then-b-r c = carried_none c.args.s c.args.p _ _ _ c.if-b-r.true
 
 pub loop-j-init : goal.loop-j-init
-loop-j-init c = (omega arith, carried_start c.args.s c.args.p _ _)
+loop-j-init c = carried_start c.args.s c.args.p _ _
 
 pub overflow_mul-j : goal.overflow_mul-j
 overflow_mul-j c =
@@ -52,7 +52,7 @@ add_row-requires c =
     let t = loop.invariant in
     let f = allowed a.s w.0.shape in
     let z = sizes a.s a.p a.b loop.j a.m f w.0.posed w.1.0 w.1.1 loop-test.true in (
-      record { shape = w.0.shape; posed = w.0.posed; long = t.1.long ∙ w.0.long },
+      record { shape = w.0.shape; posed = w.0.posed; long = t.long ∙ w.0.long },
       (
         omega arith,
         (
@@ -60,32 +60,27 @@ add_row-requires c =
           (
             z.like,
             carry_sources a.s f a.p w.0.posed a.b loop.j a.m w.1.0 w.1.1 c.if-b-r.false loop-test.true _
-                (t.1.long ∙ w.0.long),
+                (t.long ∙ w.0.long),
           ),
         ),
       ),
     )
-
-pub loop-j-smaller : goal.loop-j-smaller
-loop-j-smaller c = omega (arith, c.loop-j-test.true)
 
 pub loop-j-preserved : goal.loop-j-preserved
 loop-j-preserved c =
     let loop = c.loop-j in
     let loop-test = c.loop-j-test in
     let a = c.args in
-    let w = c.requires in (
-      omega (arith, loop-test.true),
-      carried_turn a.s (allowed a.s w.0.shape) a.p w.0.posed a.b loop.j a.m w.1.0 w.1.1
-          c.if-b-r.false loop-test.true _ _ _
-          (ap (points a.b) (less_zero _)) c.add_row.ensures _ loop.invariant.1,
-    )
+    let w = c.requires in
+    carried_turn a.s (allowed a.s w.0.shape) a.p w.0.posed a.b loop.j a.m w.1.0 w.1.1
+    c.if-b-r.false loop-test.true _ _ _
+    (ap (points a.b) (less_zero _)) c.add_row.ensures _ loop.invariant
 
 pub shape_of-slots : goal.shape_of-slots
-shape_of-slots c = c.loop-j.invariant.1.long
+shape_of-slots c = c.loop-j.invariant.long
 
 pub returns : goal.returns
 returns c =
     let t = c.loop-j in
-    let e : t.j ≡ c.args.s.r = omega (arith, t.invariant.0, c.loop-j-test.false) in
-    subst (λ (x : ℕ). Carried c.args.s c.args.p c.args.b x c.args.slots.now t.slots) e t.invariant.1
+    let e : t.j ≡ c.args.s.r = omega (arith, c.loop-j-test.false) in
+    subst (λ (x : ℕ). Carried c.args.s c.args.p c.args.b x c.args.slots.now t.slots) e t.invariant

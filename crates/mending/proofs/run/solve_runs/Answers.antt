@@ -40,12 +40,12 @@ overflow_mul-d c =
 pub loop-b-init : goal.loop-b-init
 loop-b-init c =
     let slice-known = c.slice_known-1 in
-    (omega arith, (refl, (λ i. (slice-known.given i).fits, λ xs b t. runs_start c.args.s c.args.p xs _ t)))
+    (refl, (λ i. (slice-known.given i).fits, λ xs b t. runs_start c.args.s c.args.p xs _ t))
 
 pub carry-requires : goal.carry-requires
 carry-requires c =
     let w = c.requires in (
-      record { shape = w.shape; posed = w.posed; long = c.loop-b.invariant.1.0 ∙ w.long },
+      record { shape = w.shape; posed = w.posed; long = c.loop-b.invariant.0 ∙ w.long },
       (
         c.run_length-m.ensures,
         omega (arith, c.loop-b-test.true, c.runs-n.ensures),
@@ -117,19 +117,7 @@ solve_slots-requires c =
     let test = c.loop-b-test in
     let rows = run_spaced a.s a.p loop.b run_length.result _ f w.posed run_length.ensures
     (omega (arith, test.true, runs'.ensures)) w.long in
-    (spaced_as _ _ _ _ _ _ _ (sym bs) (sym (k.long ∙ loop.invariant.1.0)) rows, ws ∙ sym bs)
-
-pub overflow_add-b : goal.overflow_add-b
-overflow_add-b c =
-    let loop = c.loop-b in
-    let f = allowed c.args.s c.requires.shape in
-    omega (arith, loop.invariant.0, f.runs_most)
-
-pub loop-b-smaller : goal.loop-b-smaller
-loop-b-smaller c =
-    let runs' = c.runs-n in
-    let loop-test = c.loop-b-test in
-    omega (arith, loop-test.true, runs'.ensures)
+    (spaced_as _ _ _ _ _ _ _ (sym bs) (sym (k.long ∙ loop.invariant.0)) rows, ws ∙ sym bs)
 
 pub loop-b-preserved : goal.loop-b-preserved
 loop-b-preserved c =
@@ -145,18 +133,16 @@ loop-b-preserved c =
     let t = c.loop-b in
     let is = ap (less a.p.pivot) w.posed.front in
     let k = run_solved a.s (allowed a.s w.shape) a.p w.posed t.b run_length.result _ _ t.slots carry.new.slots _
-    run_length.ensures (omega (arith, loop-test.true, runs'.ensures)) t.invariant.1.1.0 (λ i. (slice-known2.given i).fits)
+    run_length.ensures (omega (arith, loop-test.true, runs'.ensures)) t.invariant.1.0 (λ i. (slice-known2.given i).fits)
     (row-weights.ensures.1 ∙ ap (powers a.p.step) is) (row-weights2.ensures.1 ∙ ap (powers a.p.first) is) carry.ensures
-    c.solve_slots.ensures in (
-      omega (arith, loop-test.true, runs'.ensures),
-      (k.long ∙ t.invariant.1.0, (λ i. (c.slice_known-in-loop-b-2-1.given i).fits, λ xs b z. k.more xs b (t.invariant.1.1.1 xs b z))),
-    )
+    c.solve_slots.ensures in
+    (k.long ∙ t.invariant.0, (λ i. (c.slice_known-in-loop-b-2-1.given i).fits, λ xs b z. k.more xs b (t.invariant.1.1 xs b z)))
 
 pub shape_of-slots : goal.shape_of-slots
-shape_of-slots c = c.loop-b.invariant.1.0
+shape_of-slots c = c.loop-b.invariant.0
 
 pub returns : goal.returns
 returns c =
     let t = c.loop-b in
-    let e : t.b ≡ runs c.args.s = omega (arith, t.invariant.0, c.loop-b-test.false, c.runs-n.ensures) in
-    record { long = t.invariant.1.0; all = λ xs b z. subst (λ (x : ℕ). SolvedBelow c.args.s c.args.p xs x t.slots) e (t.invariant.1.1.1 xs b z) }
+    let e : t.b ≡ runs c.args.s = omega (arith, c.loop-b-test.false, c.runs-n.ensures) in
+    record { long = t.invariant.0; all = λ xs b z. subst (λ (x : ℕ). SolvedBelow c.args.s c.args.p xs x t.slots) e (t.invariant.1.1 xs b z) }

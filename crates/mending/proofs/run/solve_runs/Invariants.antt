@@ -1,18 +1,14 @@
 -- `solve_runs` meets its contract.
-use Prim.Native.Nat.{ℕ, ◌-◌, ◌≤◌}
+use Prim.Native.Nat.{ℕ}
 use mathlib.Core.Path.{◌≡◌}
 use mathlib.Core.List.{List}
 use lib.ListN.{length}
 use Rattle.field.specs.Bytes.{Bytes}
-use Rattle.stripe.specs.Stripe.{runs}
 use Rattle.syndromes.specs.Syndromes.{Syndromes}
 use Rattle.mending.specs.Scratch.{SolvedBelow}
 use Rattle.mending.proofs.run.solve_runs.Given as goal
 
 abbrev pub invariant-loop-b : goal.invariant-loop-b
 invariant-loop-b l =
-    (l.b ≤ runs l.s) × ((length l.slots ≡ length l.initial.slots)
-    × (Bytes l.slots × ((xs : List ℕ) → Bytes xs → Syndromes l.s l.p.pivot xs l.initial.slots → SolvedBelow l.s l.p xs l.b l.slots)))
-
-abbrev pub decreases-loop-b : goal.decreases-loop-b
-decreases-loop-b l = runs l.s - l.b
+    (length l.slots ≡ length l.initial.slots)
+    × (Bytes l.slots × ((xs : List ℕ) → Bytes xs → Syndromes l.s l.p.pivot xs l.initial.slots → SolvedBelow l.s l.p xs l.b l.slots))

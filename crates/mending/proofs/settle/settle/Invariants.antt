@@ -1,5 +1,5 @@
 -- `settle` meets its contract.
-use Prim.Native.Nat.{ℕ, ◌-◌, ◌≤◌}
+use Prim.Native.Nat.{ℕ}
 use mathlib.Core.Path.{◌≡◌}
 use mathlib.Core.List.{List}
 use lib.ListN.{length}
@@ -10,8 +10,5 @@ use Rattle.mending.proofs.settle.settle.Given as goal
 
 abbrev pub invariant-loop-j : goal.invariant-loop-j
 invariant-loop-j l =
-    (l.j ≤ l.s.r) × ((length l.slots ≡ length l.initial.slots)
-    × ((xs : List ℕ) → Bytes xs → SolvedBelow l.s l.p xs (runs l.s) l.initial.slots → SettledBelow l.s l.p xs l.j l.slots))
-
-abbrev pub decreases-loop-j : goal.decreases-loop-j
-decreases-loop-j l = l.s.r - l.j
+    (length l.slots ≡ length l.initial.slots)
+    × ((xs : List ℕ) → Bytes xs → SolvedBelow l.s l.p xs (runs l.s) l.initial.slots → SettledBelow l.s l.p xs l.j l.slots)

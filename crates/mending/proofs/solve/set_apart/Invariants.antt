@@ -1,5 +1,5 @@
 -- `set_apart` meets its contract: each entry is one weight set apart, where there is one.
-use Prim.Native.Nat.{ℕ, ◌+◌, ◌≤◌, ◌<◌, ◌-◌}
+use Prim.Native.Nat.{ℕ, ◌+◌, ◌<◌}
 use mathlib.Core.List.{List}
 use mathlib.Core.Path.{◌≡◌}
 use lib.ListN.{length, get_or}
@@ -12,7 +12,4 @@ abbrev pub Apart : List ℕ → List ℕ → ℕ → ℕ → Type 0
 Apart bs ws u x = u + 1 < length bs → x ≡ get_or ws (u + 1) 0 ⊗ (get_or bs (u + 1) 0 ⊕ get_or bs 0 0)
 
 abbrev pub invariant-loop-v : goal.invariant-loop-v
-invariant-loop-v l = (l.v ≤ most_rows) × ((length l.w ≡ most_rows) × ((u : ℕ) → u < l.v → Apart l.points l.weights u (get_or l.w u 0)))
-
-abbrev pub decreases-loop-v : goal.decreases-loop-v
-decreases-loop-v l = most_rows - l.v
+invariant-loop-v l = (length l.w ≡ most_rows) × ((u : ℕ) → u < l.v → Apart l.points l.weights u (get_or l.w u 0))

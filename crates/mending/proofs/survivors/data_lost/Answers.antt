@@ -1,5 +1,4 @@
 -- `data_lost` meets its contract.
-use borrow.Author.Rules.{rules}
 use mathlib.Core.Path.{◌≡◌}
 use mathlib.Core.List.{[], ◌∷◌}
 use native.Mathlib.Omega.{arith}
@@ -25,17 +24,17 @@ returns-then-k-at c =
       omega arith,
       data_first a.k 0 a.n a.lost.at a.lost.count loop.v c.requires.1 (omega (arith, room_at a.lost c.well_formed.0, c.requires.0))
           (omega arith)
-          loop.invariant.1.1 (λ h. c.if-k-at.true),
+          loop.invariant (λ h. c.if-k-at.true),
     )
 
 pub loop-v-preserved : goal.loop-v-preserved
-loop-v-preserved c = (search rules, (search rules, below_more _ _ c.loop-v.invariant.1.1 c.if-k-at.false))
+loop-v-preserved c = below_more _ _ c.loop-v.invariant c.if-k-at.false
 
 pub returns : goal.returns
 returns c =
     let a = c.args in (
       omega arith,
-      data_first a.k 0 a.n a.lost.at a.lost.count c.loop-v.v c.requires.1
+      data_first a.k 0 a.n a.lost.at a.lost.count a.lost.count c.requires.1
           (omega (arith, room_at a.lost c.well_formed.0, c.requires.0)) (omega arith)
-          c.loop-v.invariant.1.1 (λ h. absurd (omega arith)),
+          (λ u h. c.loop-v.invariant u (omega arith)) (λ h. absurd (omega arith)),
     )

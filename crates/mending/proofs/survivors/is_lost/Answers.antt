@@ -1,5 +1,4 @@
 -- `is_lost` meets its contract.
-use borrow.Author.Rules.{rules}
 use mathlib.Core.Path.{◌≡◌}
 use mathlib.Core.List.{[], ◌∷◌}
 use native.Mathlib.Omega.{arith}
@@ -21,14 +20,14 @@ room_at l p = (LL.owed T.the_type T'.the_laws l _ p).0.1.0.1
 pub returns-then-at-v : goal.returns-then-at-v
 returns-then-at-v c =
     let a = c.args in
-    found a.lost.at a.lost.count a.c c.loop-v.v (search rules)
-    (omega (arith, room_at a.lost c.well_formed.0)) c.if-at-v.true
+    found a.lost.at a.lost.count a.c c.loop-v.v c.loop-v-test.true
+    (omega (arith, room_at a.lost c.well_formed.0, c.loop-v-test.true, c.requires)) c.if-at-v.true
 
 pub loop-v-preserved : goal.loop-v-preserved
-loop-v-preserved c = (search rules, (search rules, below_more _ _ c.loop-v.invariant.1.1 c.if-at-v.false))
+loop-v-preserved c = below_more _ _ c.loop-v.invariant c.if-at-v.false
 
 pub returns : goal.returns
 returns c =
     let a = c.args in
-    none a.lost.at a.lost.count a.c (λ j w. c.loop-v.invariant.1.1 j (omega arith))
-    (omega (arith, room_at a.lost c.well_formed.0))
+    none a.lost.at a.lost.count a.c (λ j w. c.loop-v.invariant j (omega arith))
+    (omega (arith, room_at a.lost c.well_formed.0, c.requires))

@@ -10,10 +10,10 @@ use Rattle.mending.proofs.write.write.Goals as goal
 
 pub loop-v-init : goal.loop-v-init
 loop-v-init c =
-    (omega arith, added_start c.args.s (allowed c.args.s c.requires.0.shape) c.args.p c.requires.0.posed _ _)
+    added_start c.args.s (allowed c.args.s c.requires.0.shape) c.args.p c.requires.0.posed _ _
 
 pub offset_bounds-at-v : goal.offset_bounds-at-v
-offset_bounds-at-v c = omega (arith, c.loop-v.invariant.0, c.requires.0.posed.few)
+offset_bounds-at-v c = omega (arith, c.loop-v-test.true, c.requires.0.posed.few)
 
 pub bounds-at-v : goal.bounds-at-v
 bounds-at-v c = omega (arith, c.loop-v-test.true, c.requires.0.posed.few)
@@ -37,7 +37,7 @@ slot_row-requires c =
     let w = c.requires.0.posed in
     let f = allowed a.s c.requires.0.shape in (
       omega (arith, first_few a.s f a.p w),
-      (omega (arith, step_few a.s f a.p w), (omega (arith, loop.invariant.0, w.few), row_position a.s f a.p w loop.v c.loop-v-test.true)),
+      (omega (arith, step_few a.s f a.p w), (omega (arith, c.loop-v-test.true, w.few), row_position a.s f a.p w loop.v c.loop-v-test.true)),
     )
 
 pub overflow_mul-a : goal.overflow_mul-a
@@ -68,7 +68,7 @@ slice_bounds-add-end c =
     let loop = c.loop-v in
     let z = write_sizes c.args.s (allowed c.args.s c.requires.0.shape) c.args.p c.requires.0.posed loop.v
     c.loop-v-test.true in
-    omega (arith, z.column, loop.invariant.1.long, c.requires.1)
+    omega (arith, z.column, loop.invariant.long, c.requires.1)
 
 pub slice_bounds-add-count-in-loop-v : goal.slice_bounds-add-count-in-loop-v
 slice_bounds-add-count-in-loop-v c = omega arith
@@ -81,14 +81,6 @@ slice_bounds-add-end-in-loop-v c =
     c.args.p c.requires.0.posed c.loop-v.v c.loop-v-test.true)) in
     omega (arith, r, c.requires.0.long)
 
-pub overflow_add-v : goal.overflow_add-v
-overflow_add-v c =
-    let loop = c.loop-v in
-    omega (arith, loop.invariant.0, c.requires.0.posed.few)
-
-pub loop-v-smaller : goal.loop-v-smaller
-loop-v-smaller c = omega (arith, c.loop-v-test.true)
-
 pub loop-v-preserved : goal.loop-v-preserved
 loop-v-preserved c =
     let if1 = c.loop-v-test in
@@ -96,18 +88,16 @@ loop-v-preserved c =
     let add = c.add in
     let a = c.args in
     let w = c.requires in
-    let t = c.loop-v in (
-      omega (arith, if1.true),
-      added_turn a.s (allowed a.s w.0.shape) a.p w.0.posed t.v slot_row.result a.slots.now a.stripe.now t.stripe
-          add.new.a
-          if1.true w.1 w.0.long t.invariant.1 slot_row.ensures add.ensures,
-    )
+    let t = c.loop-v in
+    added_turn a.s (allowed a.s w.0.shape) a.p w.0.posed t.v slot_row.result a.slots.now a.stripe.now t.stripe
+    add.new.a
+    if1.true w.1 w.0.long t.invariant slot_row.ensures add.ensures
 
 pub shape_of-stripe : goal.shape_of-stripe
-shape_of-stripe c = c.loop-v.invariant.1.long
+shape_of-stripe c = c.loop-v.invariant.long
 
 pub returns : goal.returns
 returns c =
     let t = c.loop-v in
-    let e : t.v ≡ c.args.p.lost.count = omega (arith, t.invariant.0, c.loop-v-test.false) in
-    subst (λ (x : ℕ). MendedBelow c.args.s c.args.p x c.args.slots.now c.args.stripe.now t.stripe) e t.invariant.1
+    let e : t.v ≡ c.args.p.lost.count = omega (arith, c.loop-v-test.false) in
+    subst (λ (x : ℕ). MendedBelow c.args.s c.args.p x c.args.slots.now c.args.stripe.now t.stripe) e t.invariant

@@ -2,14 +2,16 @@
 use Prim.Native.Nat.{◌/◌}
 use native.Mathlib.Omega.{arith}
 use borrow.Author.Rules.{rules}
+use mathlib.Core.Path.{sym, ◌∙◌}
+use Rattle.products.proofs.Products.{power_positive}
 use Rattle.products.proofs.Halving.{halved_start, halved_turn}
 use Rattle.products.proofs.within.by_doubling.Goals as goal
 
-pub returns-then-not-is_power : goal.returns-then-not-is_power
-returns-then-not-is_power c = halved_start _ _
+pub returns-then-not-is_power_of_two : goal.returns-then-not-is_power_of_two
+returns-then-not-is_power_of_two c = halved_start _ _
 
 pub loop-k-init : goal.loop-k-init
-loop-k-init c = (c.is_power.ensures (c.if-not-is_power.false), (search rules, halved_start _ _))
+loop-k-init c = (power_positive _ (sym c.is_power_of_two.ensures ∙ c.if-not-is_power_of_two.false), (search rules, halved_start _ _))
 
 pub loop-k-smaller : goal.loop-k-smaller
 loop-k-smaller c = omega (arith, c.loop-k.invariant.0)

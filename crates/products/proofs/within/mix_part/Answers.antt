@@ -1,5 +1,6 @@
 -- `mix_part` meets its contract: the bytes read stand in a block before any is written.
 use native.Mathlib.Omega.{arith}
+use borrow.Author.Rules.{rules}
 use Rattle.field.specs.Bytes.{Bytes}
 use Prim.Native.Nat.{◌+◌, ◌-◌}
 use mathlib.Core.Path.{◌∙◌}
@@ -23,7 +24,7 @@ pub returns-then-k-eq1 : goal.returns-then-k-eq1
 returns-then-k-eq1 c =
     let h = disjoint_is c.requires.0 in
     let k = c.by_doubling-k in
-    let bytes : Bytes c.args.a.now = λ i. (c.slice_known-1.given i).fits in
+    let bytes : Bytes c.args.a.now = λ i. search rules in
     let block = block_bytes c.args.from (c.args.from + c.args.n - c.args.from) c.args.a.now _ bytes c.copy.ensures in
     let one = c.if-k-eq1.true in
     let is = c.add.ensures ∙ by_one c.args.c k.result _ _ _ one block k.ensures in

@@ -1,5 +1,5 @@
 -- `fill_columns` meets its contract: restoring the columns left behind what is restored gives the whole stripe.
-use Prim.Native.Nat.{◌-◌}
+use Prim.Native.Nat.{◌-◌, ◌*◌}
 use mathlib.Core.Path.{◌≡◌}
 use mathlib.Core.List.{◌++◌}
 use lib.ListN.{length, take, drop}
@@ -9,9 +9,6 @@ use Rattle.record.proofs.columns.fill_columns.Given as goal
 
 abbrev pub invariant-loop-c : goal.invariant-loop-c
 invariant-loop-c l =
-    (length l.stripe ≡ length l.initial.stripe)
-    × (Walk l.lost l.l l.n (length l.initial.stripe) (length l.from) l.c l.to l.at
-    × (take l.to l.stripe ++ restored l.l l.lost l.c (l.n - l.c) (drop l.at l.from) (drop l.to l.stripe) ≡ restored l.l l.lost 0 l.n l.from l.initial.stripe))
-
-abbrev pub decreases-loop-c : goal.decreases-loop-c
-decreases-loop-c l = l.n - l.c
+    Walk l.lost l.l l.n (length l.from) l.c l.at
+    × (take (l.c * l.l) l.stripe ++ restored l.l l.lost l.c (l.n - l.c) (drop l.at l.from) (drop (l.c * l.l) l.stripe)
+    ≡ restored l.l l.lost 0 l.n l.from l.initial.stripe)

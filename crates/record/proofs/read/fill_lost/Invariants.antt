@@ -1,17 +1,12 @@
 -- `fill_lost` meets its contract: the positions left behind those stored are all of them.
-use Prim.Native.Nat.{ℕ, ◌-◌, ◌≤◌, ◌<◌}
+use Prim.Native.Nat.{ℕ, ◌-◌, ◌<◌}
 use mathlib.Core.Path.{◌≡◌}
-use lib.ListN.{length, get_or}
+use lib.ListN.{get_or}
 use Rattle.field.specs.Bytes.{over}
 use Rattle.record.specs.Reading.{positions_at}
 use Rattle.record.proofs.read.fill_lost.Given as goal
 
 abbrev pub invariant-loop-i : goal.invariant-loop-i
 invariant-loop-i l =
-    (l.i ≤ l.m)
-    × ((length l.lost ≡ length l.initial.lost)
-    × (((j : ℕ) → get_or (positions_at l.s (l.m - l.i) l.at) j 0 < 65536)
-    × (over l.lost l.i (positions_at l.s (l.m - l.i) l.at) ≡ over l.initial.lost 0 (positions_at l.s l.m l.first))))
-
-abbrev pub decreases-loop-i : goal.decreases-loop-i
-decreases-loop-i l = l.m - l.i
+    ((j : ℕ) → get_or (positions_at l.s (l.m - l.i) l.at) j 0 < 65536)
+    × (over l.lost l.i (positions_at l.s (l.m - l.i) l.at) ≡ over l.initial.lost 0 (positions_at l.s l.m l.first))

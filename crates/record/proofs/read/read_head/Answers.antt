@@ -1,125 +1,79 @@
--- `read_head` meets its contract: each number is the next of the record, and each return the first refusal.
+-- `read_head` meets its contract: each number stands after the one before, so the first refusal is that of the front.
+use Prim.Native.Nat.{ℕ}
 use mathlib.Core.Path.{sym, ap, ap₂, ◌∙◌}
-use Rattle.record.specs.declared.read.Head.TheVariants.{Shaped}
-use Rattle.number.specs.Number.{number_at, number_refusal, next_of, value_of}
+use native.Mathlib.Omega.{arith}
+use Rattle.stripe.specs.declared.refusal.Refusal.TheVariants as refusal
+use Rattle.stripe.specs.declared.Shape.{Shape}
+use Rattle.stripe.proofs.Refused.{handed_on, refused_some}
+use Rattle.number.specs.Number.{number_at, number_refusal, value_of, next_of}
+use Rattle.number.proofs.Reported.{flaw_refused}
 use Rattle.record.specs.Reading.{stripe_refusal}
-use Rattle.record.proofs.Refusals.{unshaped, shaped, head_first, head_second, head_third, head_fourth, head_stripe, head_lawful, shape_is}
+use Rattle.record.proofs.Refusals.{head_first, head_second, head_third, head_fourth, head_stripe, head_lawful, shape_is}
 use Rattle.record.proofs.read.read_head.Goals as goal
 
-pub returns-then-no_k-ne0 : goal.returns-then-no_k-ne0
-returns-then-no_k-ne0 c =
-    let number-refusal = c.number_refusal-no_k in
-    let s = c.args.s.now in
-    let n1 = c.read_number-k.ensures in
-    unshaped s number-refusal.result (head_first s number-refusal.result (number-refusal.ensures ∙ ap number_refusal n1) c.if-no_k-ne0.true) c.if-no_k-ne0.true
+pub returns-in_err-k-clause-refusal : goal.returns-in_err-k-clause-refusal
+returns-in_err-k-clause-refusal c =
+    let e = c.in_err-k in
+    handed_on _ refusal.Cut c.from_residual.ensures.1 ∙ head_first c.args.s.now 9 (flaw_refused e.field-0.0 _ e.ensures) (λ z. omega arith)
 
-pub returns-then-no_r-ne0 : goal.returns-then-no_r-ne0
-returns-then-no_r-ne0 c =
-    let number-refusal2 = c.number_refusal-no_r in
+pub returns-in_err-r-clause-refusal : goal.returns-in_err-r-clause-refusal
+returns-in_err-r-clause-refusal c =
     let s = c.args.s.now in
-    let n1 = c.read_number-k.ensures in
-    let n2 = c.read_number-r.ensures ∙ ap (number_at s) (c.next_of.ensures ∙ ap next_of n1) in
-    unshaped s number-refusal2.result (head_second s
-    (sym (c.number_refusal-no_k.ensures ∙ ap number_refusal n1) ∙ c.if-no_k-ne0.false)
-    number-refusal2.result (number-refusal2.ensures ∙ ap number_refusal n2) c.if-no_r-ne0.true) c.if-no_r-ne0.true
+    let e = c.in_err-r in
+    let k = c.in_ok-k.ensures in
+    let r = e.ensures ∙ ap (number_at s) (ap next_of k) in
+    handed_on _ refusal.Cut c.from_residual-in_err-r.ensures.1
+    ∙ head_second s (sym (ap number_refusal k)) 9 (flaw_refused e.field-0.0 _ r) (λ z. omega arith)
 
-pub returns-then-no_t-ne0 : goal.returns-then-no_t-ne0
-returns-then-no_t-ne0 c =
-    let number-refusal = c.number_refusal-no_k in
-    let if1 = c.if-no_k-ne0 in
-    let next_of1 = c.next_of in
-    let read-number2 = c.read_number-r in
-    let number-refusal3 = c.number_refusal-no_t in
+pub returns-in_err-t-clause-refusal : goal.returns-in_err-t-clause-refusal
+returns-in_err-t-clause-refusal c =
     let s = c.args.s.now in
-    let n1 = c.read_number-k.ensures in
-    let n2 = read-number2.ensures ∙ ap (number_at s) (next_of1.ensures ∙ ap next_of n1) in
-    let n3 = c.read_number-t.ensures ∙ ap (number_at s) (c.next_of-2.ensures ∙ ap next_of n2) in
-    unshaped s number-refusal3.result (head_third s (sym (number-refusal.ensures ∙ ap number_refusal n1) ∙ if1.false)
-    (sym (c.number_refusal-no_r.ensures ∙ ap number_refusal n2) ∙ c.if-no_r-ne0.false)
-    number-refusal3.result (number-refusal3.ensures ∙ ap number_refusal n3) c.if-no_t-ne0.true) c.if-no_t-ne0.true
+    let e = c.in_err-t in
+    let k = c.in_ok-k.ensures in
+    let r = c.in_ok-r.ensures ∙ ap (number_at s) (ap next_of k) in
+    let t = e.ensures ∙ ap (number_at s) (ap next_of r) in
+    handed_on _ refusal.Cut c.from_residual-in_err-t.ensures.1
+    ∙ head_third s (sym (ap number_refusal k)) (sym (ap number_refusal r)) 9 (flaw_refused e.field-0.0 _ t) (λ z. omega arith)
 
-pub returns-then-no_l-ne0 : goal.returns-then-no_l-ne0
-returns-then-no_l-ne0 c =
-    let number-refusal = c.number_refusal-no_k in
-    let if1 = c.if-no_k-ne0 in
-    let next_of1 = c.next_of in
-    let read-number2 = c.read_number-r in
-    let number-refusal2 = c.number_refusal-no_r in
-    let if2 = c.if-no_r-ne0 in
-    let next-of2 = c.next_of-2 in
-    let read-number3 = c.read_number-t in
-    let number-refusal4 = c.number_refusal-no_l in
+pub returns-in_err-l-clause-refusal : goal.returns-in_err-l-clause-refusal
+returns-in_err-l-clause-refusal c =
     let s = c.args.s.now in
-    let n1 = c.read_number-k.ensures in
-    let n2 = read-number2.ensures ∙ ap (number_at s) (next_of1.ensures ∙ ap next_of n1) in
-    let n3 = read-number3.ensures ∙ ap (number_at s) (next-of2.ensures ∙ ap next_of n2) in
-    let n4 = c.read_number-l.ensures ∙ ap (number_at s) (c.next_of-3.ensures ∙ ap next_of n3) in
-    unshaped s number-refusal4.result (head_fourth s (sym (number-refusal.ensures ∙ ap number_refusal n1) ∙ if1.false)
-    (sym (number-refusal2.ensures ∙ ap number_refusal n2) ∙ if2.false)
-    (sym (c.number_refusal-no_t.ensures ∙ ap number_refusal n3) ∙ c.if-no_t-ne0.false)
-    number-refusal4.result (number-refusal4.ensures ∙ ap number_refusal n4) c.if-no_l-ne0.true) c.if-no_l-ne0.true
+    let e = c.in_err-l in
+    let k = c.in_ok-k.ensures in
+    let r = c.in_ok-r.ensures ∙ ap (number_at s) (ap next_of k) in
+    let t = c.in_ok-t.ensures ∙ ap (number_at s) (ap next_of r) in
+    let l = e.ensures ∙ ap (number_at s) (ap next_of t) in
+    handed_on _ refusal.Cut c.from_residual-in_err-l.ensures.1
+    ∙ head_fourth s (sym (ap number_refusal k)) (sym (ap number_refusal r)) (sym (ap number_refusal t)) 9 (flaw_refused e.field-0.0 _ l) (λ z. omega arith)
 
-pub returns-then-no-ne0 : goal.returns-then-no-ne0
-returns-then-no-ne0 c =
-    let number-refusal = c.number_refusal-no_k in
-    let if1 = c.if-no_k-ne0 in
-    let next_of1 = c.next_of in
-    let read-number2 = c.read_number-r in
-    let number-refusal2 = c.number_refusal-no_r in
-    let if2 = c.if-no_r-ne0 in
-    let next-of2 = c.next_of-2 in
-    let read-number3 = c.read_number-t in
-    let number-refusal3 = c.number_refusal-no_t in
-    let if3 = c.if-no_t-ne0 in
-    let next-of3 = c.next_of-3 in
-    let read-number4 = c.read_number-l in
-    let number-refusal4 = c.number_refusal-no_l in
-    let if4 = c.if-no_l-ne0 in
-    let new = c.new-shape in
-    let stripe-refusal = c.stripe_refusal-no in
+pub returns-in_err-stripe_refusal-clause-refusal : goal.returns-in_err-stripe_refusal-clause-refusal
+returns-in_err-stripe_refusal-clause-refusal c =
     let s = c.args.s.now in
-    let n1 = c.read_number-k.ensures in
-    let n2 = read-number2.ensures ∙ ap (number_at s) (next_of1.ensures ∙ ap next_of n1) in
-    let n3 = read-number3.ensures ∙ ap (number_at s) (next-of2.ensures ∙ ap next_of n2) in
-    let n4 = read-number4.ensures ∙ ap (number_at s) (next-of3.ensures ∙ ap next_of n3) in
-    let v = shape_is new.result _ _ _ _ (new.ensures.0 ∙ c.value_of.ensures ∙ ap value_of n1)
-    (new.ensures.1.0 ∙ c.value_of-2.ensures ∙ ap value_of n2)
-    (new.ensures.1.1.0 ∙ c.value_of-3.ensures ∙ ap value_of n3)
-    (new.ensures.1.1.1 ∙ c.value_of-4.ensures ∙ ap value_of n4) in
-    unshaped s stripe-refusal.result (head_stripe s (sym (number-refusal.ensures ∙ ap number_refusal n1) ∙ if1.false)
-    (sym (number-refusal2.ensures ∙ ap number_refusal n2) ∙ if2.false) (sym (number-refusal3.ensures ∙ ap number_refusal n3) ∙ if3.false)
-    (sym (number-refusal4.ensures ∙ ap number_refusal n4) ∙ if4.false) stripe-refusal.result (stripe-refusal.ensures ∙ ap stripe_refusal v) c.if-no-ne0.true)
-    c.if-no-ne0.true
+    let e = c.in_err-stripe_refusal in
+    let some = refused_some e.field-0.0 in
+    let k = c.in_ok-k.ensures in
+    let r = c.in_ok-r.ensures ∙ ap (number_at s) (ap next_of k) in
+    let t = c.in_ok-t.ensures ∙ ap (number_at s) (ap next_of r) in
+    let l = c.in_ok-l.ensures ∙ ap (number_at s) (ap next_of t) in
+    let n = c.new-shape in
+    let v = shape_is n.result _ _ _ _ (n.ensures.0 ∙ ap value_of k) (n.ensures.1.0 ∙ ap value_of r)
+    (n.ensures.1.1.0 ∙ ap value_of t) (n.ensures.1.1.1 ∙ ap value_of l) in
+    handed_on _ e.field-0.0 c.from_residual-in_err-stripe_refusal.ensures.1
+    ∙ head_stripe s (sym (ap number_refusal k)) (sym (ap number_refusal r)) (sym (ap number_refusal t)) (sym (ap number_refusal l)) _
+    (e.ensures ∙ ap stripe_refusal v) (λ z. omega arith)
 
 pub returns : goal.returns
 returns c =
-    let number-refusal = c.number_refusal-no_k in
-    let if1 = c.if-no_k-ne0 in
-    let next_of1 = c.next_of in
-    let read-number2 = c.read_number-r in
-    let number-refusal2 = c.number_refusal-no_r in
-    let if2 = c.if-no_r-ne0 in
-    let next-of2 = c.next_of-2 in
-    let read-number3 = c.read_number-t in
-    let number-refusal3 = c.number_refusal-no_t in
-    let if3 = c.if-no_t-ne0 in
-    let next-of3 = c.next_of-3 in
-    let read-number4 = c.read_number-l in
-    let number-refusal4 = c.number_refusal-no_l in
-    let if4 = c.if-no_l-ne0 in
-    let value_of_lem = c.value_of in
-    let value-of2 = c.value_of-2 in
-    let new = c.new-shape in
     let s = c.args.s.now in
-    let n1 = c.read_number-k.ensures in
-    let n2 = read-number2.ensures ∙ ap (number_at s) (next_of1.ensures ∙ ap next_of n1) in
-    let n3 = read-number3.ensures ∙ ap (number_at s) (next-of2.ensures ∙ ap next_of n2) in
-    let n4 = read-number4.ensures ∙ ap (number_at s) (next-of3.ensures ∙ ap next_of n3) in
-    let v = shape_is new.result _ _ _ _ (new.ensures.0 ∙ value_of_lem.ensures ∙ ap value_of n1) (new.ensures.1.0 ∙ value-of2.ensures ∙ ap value_of n2)
-    (new.ensures.1.1.0 ∙ c.value_of-3.ensures ∙ ap value_of n3)
-    (new.ensures.1.1.1 ∙ c.value_of-4.ensures ∙ ap value_of n4) in
-    ap₂ Shaped v (c.next_of-4.ensures ∙ ap next_of n4)
-    ∙ shaped s (sym (head_lawful s (sym (number-refusal.ensures ∙ ap number_refusal n1) ∙ if1.false)
-    (sym (number-refusal2.ensures ∙ ap number_refusal n2) ∙ if2.false) (sym (number-refusal3.ensures ∙ ap number_refusal n3) ∙ if3.false)
-    (sym (number-refusal4.ensures ∙ ap number_refusal n4) ∙ if4.false)
-    (sym (c.stripe_refusal-no.ensures ∙ ap stripe_refusal v) ∙ c.if-no-ne0.false)))
+    let k = c.in_ok-k.ensures in
+    let r = c.in_ok-r.ensures ∙ ap (number_at s) (ap next_of k) in
+    let t = c.in_ok-t.ensures ∙ ap (number_at s) (ap next_of r) in
+    let l = c.in_ok-l.ensures ∙ ap (number_at s) (ap next_of t) in
+    let n = c.new-shape in
+    let v = shape_is n.result _ _ _ _ (n.ensures.0 ∙ ap value_of k) (n.ensures.1.0 ∙ ap value_of r)
+    (n.ensures.1.1.0 ∙ ap value_of t) (n.ensures.1.1.1 ∙ ap value_of l) in
+    record {
+      refusal = head_lawful s (sym (ap number_refusal k)) (sym (ap number_refusal r)) (sym (ap number_refusal t)) (sym (ap number_refusal l))
+          (sym (c.in_ok-stripe_refusal.ensures ∙ ap stripe_refusal v));
+      ok = ap₂ (λ (w : Shape) (i : ℕ). record { shape = w; next = i }) v (ap next_of l);
+    }

@@ -1,5 +1,5 @@
 -- `survive` meets its contract: the survivors below c are there, and the lost positions passed are those below c.
-use Prim.Native.Nat.{◌-◌, ◌≤◌}
+use Prim.Native.Nat.{◌≤◌}
 use mathlib.Core.Path.{◌≡◌}
 use lib.ListN.{length}
 use Rattle.repair.proofs.Chosen.{Walked}
@@ -7,6 +7,3 @@ use Rattle.repair.proofs.choose.survive.Given as goal
 
 abbrev pub invariant-loop-c : goal.invariant-loop-c
 invariant-loop-c l = (length l.out ≡ length l.initial.out) × (l.v ≤ length l.lost) × Walked l.n l.lost l.c l.v l.m l.out
-
-abbrev pub decreases-loop-c : goal.decreases-loop-c
-decreases-loop-c l = l.n - l.c

@@ -1,12 +1,9 @@
 -- `fill_wide` meets its contract: at the places below b the rows are there.
-use Prim.Native.Nat.{◌*◌, ◌-◌, ◌≤◌}
+use Prim.Native.Nat.{◌*◌}
 use mathlib.Core.Path.{◌≡◌}
 use lib.ListN.{length}
 use Rattle.rows.specs.Rows.{RowsBelow}
 use Rattle.rows.proofs.wide.fill_wide.Given as goal
 
-abbrev pub invariant-loop-b : goal.invariant-loop-b
-invariant-loop-b l = (l.b ≤ l.l) × (length l.out ≡ 3 * l.l) × RowsBelow l.data l.k l.l 3 l.b l.out
-
-abbrev pub decreases-loop-b : goal.decreases-loop-b
-decreases-loop-b l = l.l - l.b
+abbrev pub invariant-loop-c : goal.invariant-loop-c
+invariant-loop-c l = (length l.out ≡ 3 * l.l) × RowsBelow l.data l.k l.l 3 (l.c * 64) l.out

@@ -4,35 +4,36 @@ use mathlib.Core.Path.{◌≡◌, sym, ◌∙◌}
 use native.Mathlib.Omega.{arith}
 use lib.ListN.{length}
 use Rattle.stripe.specs.Column.{lent_refusal}
+use Rattle.stripe.proofs.Refused.{is_refused, is_accepted}
 use Rattle.stripe.proofs.Lent.{lent, within, column_refused, column_data, column_parity, column_past}
 use Rattle.stripe.proofs.column.column.Goals as goal
-use Rattle.stripe.proofs.column.column.Goals.{Else-lent_refusal-ne0}
+use Rattle.stripe.proofs.column.column.Goals.{Else-is_err}
 
-pub returns-then-lent_refusal-ne0 : goal.returns-then-lent_refusal-ne0
-returns-then-lent_refusal-ne0 c = sym (column_refused _ _ _ _ (λ e. c.if-lent_refusal-ne0.true (c.lent_refusal.ensures ∙ e)))
+pub returns-then-is_err : goal.returns-then-is_err
+returns-then-is_err c = sym (column_refused _ _ _ _ (λ e. is_refused _ c.if-is_err.ensures.value (c.lent_refusal.ensures ∙ e)))
 
-passed : (c : Else-lent_refusal-ne0) → lent_refusal c.args.s (length c.args.«data».now)
+passed : (c : Else-is_err) → lent_refusal c.args.s (length c.args.«data».now)
     (length c.args.parity.now) ≡ 0
-passed c = sym c.lent_refusal.ensures ∙ c.if-lent_refusal-ne0.false
+passed c = sym c.lent_refusal.ensures ∙ is_accepted _ c.if-is_err.ensures.value
 
 pub part-requires : goal.part-requires
 part-requires c =
     let a = c.args in
-    let e = lent a.s (length a.«data».now) (length a.parity.now) (passed (goal.at.part-requires c).Else-lent_refusal-ne0) in
+    let e = lent a.s (length a.«data».now) (length a.parity.now) (passed (goal.at.part-requires c).Else-is_err) in
     within a.at a.s.k a.s.l (length a.«data».now) c.if-at-k.true e.data_long
 
 pub returns-then-at-k : goal.returns-then-at-k
-returns-then-at-k c = c.part.ensures ∙ sym (column_data _ _ _ _ (passed (goal.at.returns-then-at-k c).Else-lent_refusal-ne0) c.if-at-k.true)
+returns-then-at-k c = c.part.ensures ∙ sym (column_data _ _ _ _ (passed (goal.at.returns-then-at-k c).Else-is_err) c.if-at-k.true)
 
 pub part-requires-then-at-k-2 : goal.part-requires-then-at-k-2
 part-requires-then-at-k-2 c =
     let a = c.args in
-    let e = lent a.s (length a.«data».now) (length a.parity.now) (passed (goal.at.part-requires-then-at-k-2 c).Else-lent_refusal-ne0) in
+    let e = lent a.s (length a.«data».now) (length a.parity.now) (passed (goal.at.part-requires-then-at-k-2 c).Else-is_err) in
     within (a.at - a.s.k) a.s.r a.s.l (length a.parity.now) c.if-at-k-2.true e.parity_long
 
 pub returns-then-at-k-2 : goal.returns-then-at-k-2
 returns-then-at-k-2 c = c.part-then-at-k-2.ensures
-    ∙ sym (column_parity _ _ _ _ (passed (goal.at.returns-then-at-k-2 c).Else-lent_refusal-ne0) (omega arith) (omega arith))
+    ∙ sym (column_parity _ _ _ _ (passed (goal.at.returns-then-at-k-2 c).Else-is_err) (omega arith) (omega arith))
 
 pub returns : goal.returns
-returns c = sym (column_past _ _ _ _ (passed (goal.at.returns c).Else-lent_refusal-ne0) (omega arith))
+returns c = sym (column_past _ _ _ _ (passed (goal.at.returns c).Else-is_err) (omega arith))

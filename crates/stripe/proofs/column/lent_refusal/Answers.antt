@@ -1,29 +1,31 @@
 -- `lent_refusal` meets its contract; no product is formed before the shape is known to be allowed.
-use mathlib.Core.Path.{◌≡◌, sym, ◌∙◌}
-use native.Mathlib.Omega.{arith}
-use Rattle.stripe.specs.Shape.{shape_refusal}
+use Rattle.std.proofs.Common.{sym, ◌∙◌, arith}
+use Rattle.stripe.proofs.Refused.{handed_on, refused_some}
 use Rattle.stripe.proofs.Allowed.{allowed}
 use Rattle.stripe.proofs.Lent.{lent_shape, lent_data, lent_parity, lent_both}
 use Rattle.stripe.proofs.column.lent_refusal.Goals as goal
-use Rattle.stripe.proofs.column.lent_refusal.Goals.{Else-no-ne0}
+use Rattle.stripe.proofs.column.lent_refusal.Goals.{then-d-s-via-then-d-s, then-d-s-via-else-d-s+then-p-s}
 
-pub returns-then-no-ne0 : goal.returns-then-no-ne0
-returns-then-no-ne0 c = c.refusal-no.ensures ∙ sym (lent_shape _ _ _ (λ e. c.if-no-ne0.true (c.refusal-no.ensures ∙ e)))
+pub returns-in_err-refusal : goal.returns-in_err-refusal
+returns-in_err-refusal c =
+    let e = c.in_err-refusal in
+    let h = refused_some e.field-0.0 in
+    handed_on _ e.field-0.0 c.from_residual.ensures.1
+    ∙ (e.ensures ∙ sym (lent_shape _ _ _ (λ w. absurd (omega (arith, e.ensures)))))
 
-passed : (c : Else-no-ne0) → shape_refusal c.args.s ≡ 0
-passed c = sym c.refusal-no.ensures ∙ c.if-no-ne0.false
+pub overflow_mul-s : goal.overflow_mul-s
+overflow_mul-s c = omega (arith, (allowed c.args.s (sym c.in_ok-refusal.ensures)).data-length)
 
-pub overflow_mul-k : goal.overflow_mul-k
-overflow_mul-k c = omega (arith, (allowed c.args.s (passed c)).data-length)
+pub overflow_mul-s-else-d-s : goal.overflow_mul-s-else-d-s
+overflow_mul-s-else-d-s c = omega (arith, (allowed c.args.s (sym c.in_ok-refusal.ensures)).parity-length)
 
-pub returns-then-d-k : goal.returns-then-d-k
-returns-then-d-k c = sym (lent_data _ _ _ (passed (goal.at.returns-then-d-k c).Else-no-ne0) c.if-d-k.true)
-
-pub overflow_mul-r : goal.overflow_mul-r
-overflow_mul-r c = omega (arith, (allowed c.args.s (passed (goal.at.overflow_mul-r c).Else-no-ne0)).parity-length)
-
-pub returns-then-p-r : goal.returns-then-p-r
-returns-then-p-r c = sym (lent_parity _ _ _ (passed (goal.at.returns-then-p-r c).Else-no-ne0) c.if-d-k.false c.if-p-r.true)
+pub returns-then-d-s : goal.returns-then-d-s
+returns-then-d-s c =
+    let e = sym c.in_ok-refusal.ensures in
+    elim c.then-d-s.branch [
+      | then-d-s-via-then-d-s w ↦ sym (lent_data _ _ _ e w.if-d-s.true)
+      | then-d-s-via-else-d-s+then-p-s w ↦ sym (lent_parity _ _ _ e w.if-d-s.false w.if-p-s.true)
+    ]
 
 pub returns : goal.returns
-returns c = sym (lent_both _ _ _ (passed (goal.at.returns c).Else-no-ne0) c.if-d-k.false c.if-p-r.false)
+returns c = sym (lent_both _ _ _ (sym c.in_ok-refusal.ensures) c.if-d-s.false c.if-p-s.false)

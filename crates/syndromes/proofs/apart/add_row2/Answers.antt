@@ -26,6 +26,6 @@ pub returns : goal.returns
 returns c =
     let h = c.requires in
     let few = h.1.0 in
-    let three : c.args.r ≡ 3 = omega (arith, c.if-r-lt3.false, h.0.most) in
+    let three : c.args.s.r ≡ 3 = omega (arith, c.if-r-lt3.false, h.0.most) in
     added_row2 _ _ _ _ _ _ (omega (arith, h.0.fits, few)) h.0.within _ _ _ _ _ three (λ q p. c.below_row2-b2.ensures q (omega (arith, p, few)))
     c.plus.ensures h.1.1

@@ -3,19 +3,17 @@ use Rattle.syndromes.proofs.Halves.{quarter}
 use native.Mathlib.Omega.{arith}
 use mathlib.Core.Path.{ap, ◌∙◌}
 use Prim.Native.Nat.{ℕ}
-use borrow.Author.Rules.{rules}
 use Rattle.field.specs.Field.{◌⊕◌, ◌⊗◌}
 use Rattle.lanes.proofs.Onto.{start, turn, done}
 use Rattle.syndromes.proofs.downwards.quarter_add.Goals as goal
 
 pub loop-q-init : goal.loop-q-init
-loop-q-init c = (search rules, start _ _ _)
+loop-q-init c = start _ _ _
 
 pub loop-q-preserved : goal.loop-q-preserved
 unfolding ◌⊕◌
 loop-q-preserved c =
-    let h = c.loop-q.invariant.1 in
-    (search rules, turn _ h (omega arith) (omega arith) (c.halve-in-loop-q.ensures ∙ ap (λ (x : ℕ). 142 ⊗ x) c.halve.ensures ∙ quarter _))
+    turn _ c.loop-q.invariant (omega arith) (omega arith) (c.halve-in-loop-q.ensures ∙ ap (λ (x : ℕ). 142 ⊗ x) c.halve.ensures ∙ quarter _)
 
 pub returns : goal.returns
-returns c = done c.loop-q.invariant.1 c.loop-q-test.false c.shorter-n.ensures.1.1
+returns c = done c.loop-q.invariant c.loop-q-test.false c.shorter-n.ensures.1.1

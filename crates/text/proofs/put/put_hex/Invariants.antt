@@ -1,14 +1,11 @@
--- After q turns the first q bytes are written.
-use Prim.Native.Nat.{◌+◌, ◌-◌, ◌*◌, ◌≤◌}
+-- The bytes before the place are written.
+use Prim.Native.Nat.{◌+◌, ◌*◌}
 use mathlib.Core.Path.{◌≡◌}
-use lib.ListN.{length, take}
+use lib.ListN.{take}
 use Rattle.field.specs.Bytes.{over}
 use Rattle.text.specs.Text.{hex}
 use Rattle.text.proofs.put.put_hex.Given as goal
 
-abbrev pub invariant-loop-q : goal.invariant-loop-q
-invariant-loop-q l =
-    (l.q ≤ length l.bytes) × ((l.next ≡ l.at + 2 * l.q) × ((length l.out ≡ length l.initial.out) × (l.out ≡ over l.initial.out l.at (hex (take l.q l.bytes)))))
-
-abbrev pub decreases-loop-q : goal.decreases-loop-q
-decreases-loop-q l = length l.bytes - l.q
+abbrev pub invariant-loop-b : goal.invariant-loop-b
+invariant-loop-b l =
+    (l.next ≡ l.at + 2 * l.b-index) × (l.out ≡ over l.initial.out l.at (hex (take l.b-index l.bytes)))

@@ -9,18 +9,6 @@ use Rattle.field.proofs.Over.{over_on}
 use Rattle.text.proofs.Pieces.{hex-one}
 use Rattle.text.proofs.put.put_pair.Goals as goal
 
-pub hex_digit-requires : goal.hex_digit-requires
-hex_digit-requires c = omega arith
-
-pub put_byte-next-requires : goal.put_byte-next-requires
-put_byte-next-requires c = omega arith
-
-pub hex_digit-requires-2 : goal.hex_digit-requires-2
-hex_digit-requires-2 c = omega arith
-
-pub put_byte-requires : goal.put_byte-requires
-put_byte-requires c = omega arith
-
 pub returns : goal.returns
 returns c = let b = c.args.b in
     let first = c.put_byte-next.ensures in

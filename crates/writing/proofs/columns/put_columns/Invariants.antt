@@ -1,5 +1,5 @@
 -- `put_columns` meets its contract: storing the surviving columns left over what is stored gives all of them.
-use Prim.Native.Nat.{◌-◌}
+use Prim.Native.Nat.{◌-◌, ◌*◌}
 use mathlib.Core.Path.{◌≡◌}
 use lib.ListN.{length, drop}
 use lib.Seq.{sets}
@@ -9,9 +9,5 @@ use Rattle.writing.proofs.columns.put_columns.Given as goal
 
 abbrev pub invariant-loop-c : goal.invariant-loop-c
 invariant-loop-c l =
-    (length l.out ≡ length l.initial.out)
-    × (Walk l.lost l.l l.n (length l.stripe) (length l.initial.out) l.c l.from l.at
-    × (sets l.out l.at (survivors l.l l.lost l.c (l.n - l.c) (drop l.from l.stripe)) ≡ sets l.initial.out l.first (survivors l.l l.lost 0 l.n l.stripe)))
-
-abbrev pub decreases-loop-c : goal.decreases-loop-c
-decreases-loop-c l = l.n - l.c
+    Walk l.lost l.l l.n (length l.initial.out) l.c l.at
+    × (sets l.out l.at (survivors l.l l.lost l.c (l.n - l.c) (drop (l.c * l.l) l.stripe)) ≡ sets l.initial.out l.first (survivors l.l l.lost 0 l.n l.stripe))

@@ -59,8 +59,7 @@ fn position(low: u8, high: u8) -> usize
     usize::from(u16::from_le_bytes([low, high]))
 }
 
-// The number of positions in the list, and the first CAPACITY of them. With as many turns as there are positions the compiler makes vector
-// code of the loop, which costs a call with one lost column of 64 bytes up to a twelfth.
+// The number of positions in the list, and the first CAPACITY of them.
 pub fn lost_of(list: &[u8]) -> Lost
     ensures { result ≡ lost_of list.now }
 {

@@ -47,28 +47,28 @@ product_done (suc n) v s a b p e = omega arith
 -- ---- the same where a bit's number counts up
 
 pub bits_start : (a b : ℕ) → b < 256 → 0 ⊕ shifted 8 (a / 1) b ≡ a ⊗ b
-unfolding ◌⊗◌
-bits_start a b h = zero-add (shifted 8 (a / 1) b) ∙ ap₂ (shifted 8) (div-one a) (sym (mod-eq_of_lt h))
+bits_start a b h = ap (λ (x : ℕ). 0 ⊕ shifted 8 x b) (div-one a) ∙ product_start a b h
 
-lowest : (n x y b d : ℕ) → b < 256 → y ≡ x / 2 → (0 < n → d ≡ 2 ⊗ b) → shifted (suc n) x b ≡ times (x % 2) b ⊕ shifted n y d
+-- of no bits nothing is asked
+same_rest : (n x y d e : ℕ) → x ≡ y → (0 < n → d ≡ e) → shifted n x d ≡ shifted n y e
 unfolding shifted
-lowest zero x y b d h e f = refl
-lowest (suc n) x y b d h e f = ap₂ (λ (u v : ℕ). times (x % 2) b ⊕ shifted (suc n) u v) (sym e) (sym (f (omega arith) ∙ two_mul b h))
+same_rest zero x y d e p q = refl
+same_rest (suc n) x y d e p q = ap₂ (shifted (suc n)) p (q (omega arith))
 
 -- after the last bit nothing is asked of d
 pub bits_turn : (i v s a b t d : ℕ) → i < 8 → b < 256 → s ⊕ shifted (8 - i) (a / 2 ^ i) b ≡ v → t ≡ times (a / 2 ^ i % 2) b → (i < 7 → d ≡ 2 ⊗ b)
     → s ⊕ t ⊕ shifted (8 - (i + 1)) (a / 2 ^ (i + 1)) d ≡ v
 bits_turn i v s a b t d l h e f g =
-    let left : suc (8 - (i + 1)) ≡ 8 - i = omega arith in
+    let left : 8 - i - 1 ≡ 8 - (i + 1) = omega arith in
     let half : a / 2 ^ (i + 1) ≡ a / 2 ^ i / 2 =
     ap (λ (p : ℕ). a / p) (ap (λ (k : ℕ). 2 ^ k) (add-one i) ∙ pow-suc 2 i) ∙ sym (div-div-eq-div-mul a (2 ^ i) 2) in
-    let next = lowest (8 - (i + 1)) (a / 2 ^ i) (a / 2 ^ (i + 1)) b d h half (λ p. g (omega arith)) in
-    add_assoc s t _ ∙ ap (λ (x : ℕ). s ⊕ (x ⊕ shifted (8 - (i + 1)) (a / 2 ^ (i + 1)) d)) f
-    ∙ ap (λ (x : ℕ). s ⊕ x) (sym next ∙ ap (λ (k : ℕ). shifted k (a / 2 ^ i) b) left) ∙ e
+    ap (λ (x : ℕ). s ⊕ t ⊕ x)
+    (same_rest (8 - (i + 1)) (a / 2 ^ (i + 1)) (a / 2 ^ i / 2) d (2 ⊗ b) half (λ p. g (omega arith))
+    ∙ ap (λ (k : ℕ). shifted k (a / 2 ^ i / 2) (2 ⊗ b)) (sym left))
+    ∙ product_turn (8 - i) v s (a / 2 ^ i) b t (2 ⊗ b) (omega arith) h e f refl
 
 pub bits_done : (i v s a b : ℕ) → i ≡ 8 → s ⊕ shifted (8 - i) a b ≡ v → s ≡ v
-unfolding shifted
-bits_done i v s a b l e = sym (add-zero s) ∙ ap (λ (k : ℕ). s ⊕ shifted (8 - k) a b) (sym l) ∙ e
+bits_done i v s a b l e = product_done (8 - i) v s a b (omega arith) e
 
 -- ---- powers
 

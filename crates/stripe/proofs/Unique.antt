@@ -17,6 +17,8 @@ use Rattle.stripe.specs.contracts.column.lent_refusal as lent-refusal
 use Rattle.stripe.proofs.column.lent_refusal.Reads as lent-refusal-reads
 use Rattle.stripe.specs.contracts.column.column as column
 use Rattle.stripe.proofs.column.column.Reads as column-reads
+use Rattle.stripe.specs.contracts.refusal.U32FromRefusal.from as u32-from
+use Rattle.stripe.proofs.refusal.U32FromRefusal.from.Reads as u32-from-reads
 use Rattle.stripe.specs.contracts.is_lost as is_lost
 use Rattle.stripe.proofs.is_lost.Reads as is-lost-reads
 
@@ -44,6 +46,10 @@ shape_run_length_unique κs a r r' s s' p q = p ∙ sym q
 pub lent_refusal_unique : (κs : Lfts 0) (a : ArgsD lent-refusal.signature κs) (r r' : ResD lent-refusal.signature κs)
     (s s' : AtExit lent-refusal.ended κs) → lent-refusal-reads.Post κs a r s → lent-refusal-reads.Post κs a r' s' → r ≡ r'
 lent_refusal_unique κs a r r' s s' p q = same_answer r r' (p ∙ sym q) (λ x y e f. refl)
+
+pub u32_from_unique : (κs : Lfts 0) (a : ArgsD u32-from.signature κs) (r r' : ResD u32-from.signature κs) (s s' : AtExit u32-from.ended κs)
+    → u32-from-reads.Post κs a r s → u32-from-reads.Post κs a r' s' → r ≡ r'
+u32_from_unique κs a r r' s s' p q = p ∙ sym q
 
 pub column_unique : (κs : Lfts 1) (a : ArgsD column.signature κs) (r r' : ResD column.signature κs) (s s' : AtExit column.ended κs)
     → column-reads.Post κs a r s → column-reads.Post κs a r' s' → r.now ≡ r'.now

@@ -9,6 +9,7 @@ use Rattle.record.proofs.columns.fill_columns.Given as goal
 
 abbrev pub invariant-loop-c : goal.invariant-loop-c
 invariant-loop-c l =
-    Walk l.lost l.l l.n (length l.from) l.c l.at
+    (l.to ≡ l.c * l.l)
+    × (Walk l.lost l.l l.n (length l.from) l.c l.at
     × (take (l.c * l.l) l.stripe ++ restored l.l l.lost l.c (l.n - l.c) (drop l.at l.from) (drop (l.c * l.l) l.stripe)
-    ≡ restored l.l l.lost 0 l.n l.from l.initial.stripe)
+    ≡ restored l.l l.lost 0 l.n l.from l.initial.stripe))
